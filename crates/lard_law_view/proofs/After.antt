@@ -5,9 +5,10 @@ use Rattle.std.proofs.lemmas.List.Sums.{fold-append}
 use Rattle.std.specs.List.{fold, list_all}
 use Rattle.lard_law_view.specs.Prelude.{Event, HasRule, IsStep, IsViewed, Machine, Out, Packet, Place, Rec, answered_step, clocked, is_opening, is_own, lose_at, machine_step, machine_told, net_of, net_step, node_at, packets_of, passed, segments_sent, sent_records, told_rows}
 use Rattle.lard_base.specs.declared.event.Event.TheVariants as event
-use Rattle.lard_law_view.proofs.AnyShape.{AnyShape, IsAct, SomeGift, SomeNote, SomeTimer, step-any}
+use Rattle.lard_law_view.proofs.AnyShape.{AnyShape, IsAct, SomeGift, SomeNote, SomeTimer, some-kind, step-any}
 use Rattle.lard_law_view.proofs.OfKinds.{OfTimers, of-gift, of-sents, of-timer}
-use Rattle.lard_law_view.proofs.Saying.{IsStill, gave-still, note-still}
+use Rattle.lard_law_view.proofs.RecordKinds.{any-kind, kind_of}
+use Rattle.lard_law_view.proofs.Saying.{IsStill, gave-still, note-passes}
 use Rattle.lard_law_view.proofs.Shapes.{HasJobs, IsPut}
 use Rattle.lard_law_view.proofs.Timers.{timer-still}
 use Rattle.lard_history.proofs.Each.{Each, Each-append, Each-weaker}
@@ -76,9 +77,12 @@ record IsStillOut (o : Out) : Type 0 where
   gave : Each (λ r. IsStill r × IsQuiet r) o.gave
   timers : Each (λ r. IsStill r × IsQuiet r) o.timers
 
+some-still : (place : Place) (r : Rec) → SomeNote place r → IsStill r
+some-still place r h = note-passes r (any-kind place (kind_of r) (some-kind place r h))
+
 act-still : (m w : Machine) (e : Event) (place : Place) (o : Out) → IsAct m w e place o → IsStillOut o
 act-still m w e place o act = record {
-  notes = Each-weaker (SomeNote place) IsStill (λ r h. note-still place h.0 r h.2) o.notes act.notes;
+  notes = Each-weaker (SomeNote place) IsStill (some-still place) o.notes act.notes;
   gave = Each-weaker (SomeGift place) (λ r. IsStill r × IsQuiet r) (λ r h. (gave-still place h.0 r h.1, of-gift IsQuiet (λ p d epoch. (λ n. refl, refl)) place h.0 r h.1)) o.gave act.gave;
   timers = Each-weaker (SomeTimer place) (λ r. IsStill r × IsQuiet r) (λ r h. (timer-still place h.0 r h.1, of-timer IsQuiet quiet-timers place h.0 r h.1)) o.timers act.timers;
 }

@@ -1,14 +1,15 @@
 -- What is so of a step in which a place acts, whatever its shape: each of its records is of some connection, or of none. A law that
 -- looks at records alone is proved by this, and needs no case for a shape.
 use Rattle.std.proofs.Common.{◌≡◌, ℕ, ◌+◌, ◌-◌, List, [], ◌∷◌, ◌++◌, false, Some, Ok, refl, sym, ap, ◌∙◌, subst, ⊎_elim, arith}
-use Rattle.std.specs.Prelude.{◌⊎◌}
+use Rattle.std.specs.Prelude.{◌⊎◌, inl, inr}
 use Rattle.std.proofs.lemmas.List.Sums.{fold-append}
 use Rattle.std.specs.List.{flat_map, fold}
 use Rattle.lard_law_view.specs.Prelude.{Conn, Event, Front, GoesBetween, HasRule, IsConnNumber, IsViewed, Machine, Move, Node, Out, Packet, Part, Place, Rec, Seen, answered_step, clocked, lose_at, machine_step, machine_told, net_step, packet_at, part_of, passed, seen_of, seen_on, setting_of, timer_rows}
 use Rattle.lard_base.specs.declared.event.Event.TheVariants as event
 use Rattle.lard_law_view.proofs.Fine.{IsFine, fine}
 use Rattle.lard_law_view.proofs.Heads.{ActsAt, Begins}
-use Rattle.lard_law_view.proofs.Saying.{AllBetween, AreMessages, GaveAt, IsStill, NotedAt, messages-between}
+use Rattle.lard_law_view.proofs.RecordKinds.{IsOfPlace, kind_of}
+use Rattle.lard_law_view.proofs.Saying.{AllBetween, AreMessages, GaveAt, IsStill, NotedAt, messages-between, note-kind}
 use Rattle.lard_law_view.proofs.Shapes.{ActsOn, ActsOnEach, ActsOnTwo, IsMover, IsNobodyAt, IsPut, IsUnheardAt, Mover, NamesNobody, Shapes, both_out, each_out}
 use Rattle.lard_law_view.proofs.Stepping.{step-has}
 use Rattle.lard_law_view.proofs.Timers.{IsTimerAt, timer_rows-are}
@@ -19,8 +20,9 @@ use Rattle.lard_law_view.proofs.OwnRecords.{behind}
 
 -- ---- of some connection
 
+-- a note is of some connection, or of none
 abbrev pub SomeNote : Place → Rec → Type 0
-SomeNote place r = (c : ℕ) × IsConnNumber c × NotedAt place c r
+SomeNote place r = ((c : ℕ) × IsConnNumber c × NotedAt place c r) ⊎ NamesNobody place r
 
 abbrev pub SomeGift : Place → Rec → Type 0
 SomeGift place r = (c : ℕ) × GaveAt place c r
@@ -47,15 +49,23 @@ pub record IsAct (m w : Machine) (e : Event) (place : Place) (o : Out) : Type 0 
 
 -- ---- notes that name nobody
 
-nobody-noted : (place : Place) (c : ℕ) (r : Rec) → NamesNobody place r → NotedAt place c r
-nobody-noted (Node n) c (rec.Hit k path) h = h
-nobody-noted _ c _ h = absurd h
+nobody-kind : (place : Place) (r : Rec) → NamesNobody place r → IsOfPlace place (kind_of r)
+nobody-kind Front (rec.Closed n) h = tt
+nobody-kind (Node n) (rec.Hit k path) h = tt
+nobody-kind _ _ h = absurd h
+
+-- of what kind a note is
+pub some-kind : (place : Place) (r : Rec) → SomeNote place r → IsOfPlace place (kind_of r)
+some-kind place r (inl h) = note-kind place h.0 r h.2
+some-kind place r (inr h) = nobody-kind place r h
 
 nobody-seen : (place : Place) (q : ℕ) (net : List Packet) (r : Rec) → NamesNobody place r → seen_of q net r ≡ []
+nobody-seen Front q net (rec.Closed n) h = refl
 nobody-seen (Node n) q net (rec.Hit k path) h = refl
 nobody-seen _ q net _ h = absurd h
 
 nobody-counts : (place : Place) (n : ℕ) (r : Rec) → NamesNobody place r → answered_step n r ≡ n
+nobody-counts Front n (rec.Closed i) h = refl
 nobody-counts (Node i) n (rec.Hit k path) h = refl
 nobody-counts _ n _ h = absurd h
 
@@ -70,7 +80,7 @@ none-counts place n (r ∷ rs) h = ap (λ k. fold answered_step k rs) (nobody-co
 -- ---- of one connection
 
 some-notes : (place : Place) (c : ℕ) (rs : List Rec) → IsConnNumber c → Each (NotedAt place c) rs → Each (SomeNote place) rs
-some-notes place c rs number h = Each-weaker (NotedAt place c) (SomeNote place) (λ r k. (c, number, k)) rs h
+some-notes place c rs number h = Each-weaker (NotedAt place c) (SomeNote place) (λ r k. inl (c, number, k)) rs h
 
 some-gifts : (place : Place) (c : ℕ) (rs : List Rec) → Each (GaveAt place c) rs → Each (SomeGift place) rs
 some-gifts place c rs h = Each-weaker (GaveAt place c) (SomeGift place) (λ r k. (c, k)) rs h
@@ -150,7 +160,7 @@ module _ (m w : Machine) (e : Event) where
         uncounted = any.uncounted;
         acts = any.acts;
         first = act.first;
-        notes = Each-weaker (NamesNobody place) (SomeNote place) (λ r h. (1, (omega arith, omega arith), nobody-noted place 1 r h)) notes act.nobody;
+        notes = Each-weaker (NamesNobody place) (SomeNote place) (λ r h. inr h) notes act.nobody;
         segments = tt;
         gave = each-flat (SomeGift place) (λ x. x.gave) xs (Each-weaker (IsMover m w place) (λ x. Each (SomeGift place) x.gave) (λ x h. some-gifts place x.c x.gave h.gave) xs act.movers);
         messages = each-flat (SomeSent place) (λ x. x.messages) xs

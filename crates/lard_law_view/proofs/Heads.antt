@@ -96,6 +96,11 @@ module _ (m : Machine) (k c : ℕ) (p : Packet) (at : packet_at m.net k ≡ Some
 pub comes-to-none : (m : Machine) (k : ℕ) (p : Packet) → packet_at m.net k ≡ Some p → conn_of p.from p.to p.bytes ≡ None → (i q : ℕ) → seen_on q m.net (rec.Event i (event.Deliver k) ∷ rec.Got k ∷ []) ≡ []
 comes-to-none m k p at none i q = ap (λ o. came_seen q o ++ []) at ∙ ap (λ o. one_of q o (Came (letter_of p)) ++ []) none
 
+-- ---- of a node that is closed, which names none
+
+pub drains : (m : Machine) (n c : ℕ) → Begins m (event.Drain n) Front c []
+drains m n c = record { mine = λ i. refl; others = λ i q k. refl; still = tt; uncounted = λ k. refl; acts = λ J. refl; event = tt; came = tt }
+
 -- ---- of a job of a disk, which names none
 
 pub completes : (m : Machine) (n j c : ℕ) → Begins m (event.Disk n j) (Node n) c []

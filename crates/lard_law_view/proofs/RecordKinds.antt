@@ -28,6 +28,7 @@ kind_of (rec.Released c) = OfFront
 kind_of (rec.AssignedFirst c r path n add remove) = OfFront
 kind_of (rec.AssignedLater c r path n add size queue) = OfFront
 kind_of (rec.BatchOver c) = OfFront
+kind_of (rec.Closed n) = OfFront
 kind_of (rec.Hit n path) = OfNode
 kind_of (rec.Queued n m c r path) = OfNode
 kind_of (rec.Read n m c r path) = OfNode

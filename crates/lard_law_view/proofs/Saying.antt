@@ -129,6 +129,7 @@ machine-other (rec.Released c) h = refl
 machine-other (rec.AssignedFirst c r path n add remove) h = refl
 machine-other (rec.AssignedLater c r path n add size queue) h = refl
 machine-other (rec.BatchOver c) h = refl
+machine-other (rec.Closed n) h = refl
 machine-other (rec.Hit n path) h = refl
 machine-other (rec.Queued n m c r path) h = refl
 machine-other (rec.Read n m c r path) h = refl

@@ -1,21 +1,25 @@
 -- A step that is done has one of the shapes.
 use Rattle.std.proofs.Common.{◌≡◌, ℕ, ◌-◌, Bool, true, false, cond, nat_lt, List, [], ◌∷◌, length, Option, Some, None, Result, Ok, Err, refl, sym, ap, ◌∙◌, subst, ◌++◌}
 use Rattle.std.specs.FinMap as table
-use Rattle.lard_law_view.specs.Prelude.{Client, ClientBlock, Conn, Event, Front, HasRule, IsUnheard, IsViewed, Machine, Move, Node, NodeState, Packet, Place, Rec, Rules, Seen, Station, StepFault, ToClient, Turn, What, client_aborts, client_acts, client_gets, client_goes_on, client_holds, client_injects, client_opens, client_shuts, client_takes, client_timer, client_writes, completes, conn, conn_of, decoded, decoded_message, delivered, disk_at, from_place, happens, is_client_armed, is_no_job, is_no_node, limit_reached, lose_at, lost, machine_opened, machine_step, machine_to_client, machine_to_front, machine_wrote, node_acts, node_at, node_gave, node_setting, node_step, packet_at, part_of, passed, request, setting_of, station_armed, timer, to_place, unless_limit, written_len}
+use Rattle.std.specs.Prelude.{inl, inr}
+use Rattle.std.proofs.lemmas.Bool.{cond_both}
+use Rattle.lard_history.proofs.Each.{Each}
+use Rattle.lard_law_view.specs.Prelude.{AreOwn, Client, ClientBlock, Conn, Event, Front, HasRule, IsUnheard, IsViewed, Machine, Move, Node, NodeState, Packet, Place, Rec, Rules, Seen, Station, StepFault, ToClient, Turn, What, client_aborts, client_acts, client_gets, client_goes_on, client_holds, client_injects, client_opens, client_shuts, client_takes, client_timer, client_writes, closed_note, completes, conn, conn_of, decoded, decoded_message, delivered, disk_at, drained, from_place, front_acts, front_drains, happens, has_other_open, is_client_armed, is_no_job, is_no_node, is_open, limit_reached, lose_at, lost, machine_opened, machine_step, machine_to_client, machine_to_front, machine_wrote, node_acts, node_at, node_gave, node_setting, node_step, packet_at, part_of, passed, request, setting_of, station_armed, timer, to_place, unless_limit, written_len}
 use Rattle.lard_base.specs.declared.event.Event.TheVariants as event
-use Rattle.lard_rules.specs.declared.fault.Refusal.TheVariants.{NoJob, NoNode, WasLost}
+use Rattle.lard_rules.specs.declared.fault.Refusal.TheVariants.{LastNode, NoJob, NoNode, WasLost}
 use Rattle.lard_rules.specs.declared.fault.StepFault.TheVariants.{Limit, Refused}
 use Rattle.lard_law_view.specs.View as moves
 use Rattle.lard_law_view.proofs.Clients.{client-acts}
-use Rattle.lard_law_view.proofs.Heads.{Begins, comes, names, was}
+use Rattle.lard_law_view.proofs.Heads.{Begins, comes, drains, names, was}
 use Rattle.lard_law_view.proofs.Firing.{disk-completes, front-fires, front-gets, node-fires}
 use Rattle.lard_law_view.proofs.Hearing.{front-message, node-message}
 use Rattle.lard_law_view.proofs.Nothing.{node-there}
 use Rattle.lard_law_view.proofs.Numbers.{client-number}
-use Rattle.lard_law_view.proofs.Shapes.{Shapes}
+use Rattle.lard_law_view.proofs.Shapes.{ActsOnEach, NamesNobody, Shapes}
 use Rattle.lard_law_view.proofs.Turned.{between-has}
 use Rattle.lard_journal.specs.declared.rec.Rec.TheVariants as rec
 use Rattle.lard_rules.specs.declared.fault.What.TheVariants.{Stream}
+use Rattle.lard_rules.specs.declared.front.FrontIn.TheVariants as input
 use Rattle.lard_rules.specs.declared.node.BackIn.TheVariants as back
 use Rattle.lard_law_view.proofs.Firsts.{HasOwn, gets-others, own-alone, writes-own}
 use Rattle.lard_law_view.proofs.OwnRecords.{behind}
@@ -174,6 +178,40 @@ module _ (m : Machine) (view : IsViewed m) (P : Conn → Move → Type 0) (R : R
       go true t i = cc
       go false t i = done _ _ (shapes.loses k p at t) i
 
+    -- ---- nodes that close
+
+    drain-acts : (i : ℕ) → ActsOnEach m (record m { front = (front_drains m.front i).0 }) (event.Drain i) Front (closed_note m.front.dispatch i) []
+    unfolding part_of
+    drain-acts i =
+        let open_ : Bool = is_open m.front.dispatch.books.loads i in
+        record {
+          put = record { config = refl; files = refl; net = refl; journal = refl; events = refl; answered = refl; now = refl; nodes = refl; jobs = λ h. h };
+          machine = tt;
+          begins = drains m i;
+          first = own-alone (event.Drain i) (closed_note m.front.dispatch i) (cond_both open_ (rec.Closed i ∷ []) [] (AreOwn (event.Drain i)) (λ t. inl refl) (λ t. inr refl));
+          nobody = cond_both open_ (rec.Closed i ∷ []) [] (Each (NamesNobody Front)) (λ t. (tt, tt)) (λ t. tt);
+          rising = tt;
+          movers = tt;
+          others = λ q h. refl;
+        }
+
+    drained-is : (i : ℕ) → drained m i ≡ Ok n → Q (event.Drain i) n
+    unfolding drained
+    drained-is i is = there (is_no_node m.config.nodes i) is where
+      abbrev last : Result Machine StepFault
+      last = Err (Refused (LastNode i))
+
+      abbrev after : Machine
+      after = front_acts m (event.Drain i) [] (input.Drain i)
+
+      other : (b : Bool) → cond b (Ok after) last ≡ Ok n → Q (event.Drain i) n
+      other true e = done (event.Drain i) after (shapes.each _ (event.Drain i) Front (closed_note m.front.dispatch i) [] (drain-acts i) tt) e
+      other false e = cc
+
+      there : (b : Bool) → cond b (Err (Refused (NoNode i m.config.nodes))) (cond (has_other_open m.front.dispatch.books.loads i) (Ok after) last) ≡ Ok n → Q (event.Drain i) n
+      there true e = cc
+      there false e = other (has_other_open m.front.dispatch.books.loads i) e
+
     -- ---- disks
 
     disk-is : (i j : ℕ) (o : Option NodeState) → node_at m.nodes i ≡ o → disk_at m i j o ≡ Ok n → Q (event.Disk i j) n
@@ -215,6 +253,7 @@ module _ (m : Machine) (view : IsViewed m) (P : Conn → Move → Type 0) (R : R
     happens-is (event.Lose k) h is = lost-is k (packet_at m.net k) refl is
     happens-is (event.Timer p c) h is = timer-is p c (table.get m.clients c) h refl is
     happens-is (event.Disk i j) h is = completes-is i j is
+    happens-is (event.Drain i) h is = drained-is i is
     happens-is (event.Clock ms) h is = done (event.Clock ms) _ (shapes.clocks ms) is
     happens-is (event.Settle rounds) h is = absurd h
 
