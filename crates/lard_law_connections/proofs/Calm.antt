@@ -1,11 +1,12 @@
 -- What a step says besides its notes: its event, packets, gifts and timers. A law that looks at none of these owes a word for each
 -- (`Allows`); where only such places act whose notes it does not look at either, it looks at nothing of the step (`step-calm`).
-use Rattle.std.proofs.Common.{◌≡◌, ℕ, ◌+◌, List, [], ◌∷◌, ◌++◌, length, Ok, ap, ◌∙◌, refl, sym, subst, append_assoc}
+use Rattle.std.proofs.Common.{◌≡◌, ℕ, ◌+◌, List, [], ◌∷◌, ◌++◌, length, Ok, ap, ◌∙◌, refl, sym, subst, append_assoc, inl, inr}
 use Rattle.lard_law_view.specs.Prelude.{Epoch, Event, Front, HasRule, IsViewed, Machine, Millis, Node, Out, Part, Place, Rec, TimerKind, clocked, machine_step, machine_told, passed, segments_sent, sent_records, timer_rows}
 use Rattle.lard_base.specs.declared.event.Event.TheVariants as event
 use Rattle.lard_law_view.proofs.AnyShape.{AnyShape, IsAct, SomeGift, SomeNote, SomeTimer, step-any}
 use Rattle.lard_law_view.proofs.Heads.{ActsAt}
 use Rattle.lard_law_view.proofs.Saying.{GaveAt, NotedAt}
+use Rattle.lard_law_view.proofs.Shapes.{NamesNobody}
 use Rattle.lard_law_view.proofs.Timers.{IsTimerAt, timer_rows-are}
 use Rattle.lard_history.proofs.Each.{Each, Each-append, Each-weaker}
 use Rattle.lard_journal.specs.declared.rec.Rec.TheVariants as rec
@@ -100,8 +101,9 @@ every-clock P clock (event.Clock ms) = clock
 every-clock P clock _ = tt
 
 -- what notes of these places say is so
-abbrev pub AllowsNotes : (Place → Type 0) → (Rec → Type 0) → Type 0
-AllowsNotes Who P = (place : Place) (c : ℕ) (r : Rec) → Who place → NotedAt place c r → P r
+pub record AllowsNotes (Who : Place → Type 0) (P : Rec → Type 0) : Type 0 where
+  pub named : (place : Place) (c : ℕ) (r : Rec) → Who place → NotedAt place c r → P r
+  pub nobody : (place : Place) (r : Rec) → Who place → NamesNobody place r → P r
 
 -- only such places act in the step of the event
 abbrev pub OnlyAct : (Place → Type 0) → Machine → Event → Type 0
@@ -114,12 +116,16 @@ module _ (P : Rec → Type 0) (k : Allows P) (Who : Place → Type 0) (notes : A
   abbrev Calms : Event → Machine → Type 0
   Calms e n = AtClock P e → OnlyAct Who m e → IsCalm P m n
 
+  allowed : (place : Place) → Who place → (r : Rec) → SomeNote place r → P r
+  allowed place who r (inl h) = notes.named place h.0 r who h.2
+  allowed place who r (inr h) = notes.nobody place r who h
+
   told-calm : (w : Machine) (e : Event) (place : Place) (o : Out) → IsAct m w e place o → Who place → IsCalm P m (machine_told w e (behind e) place o)
   told-calm w e place o act who = (
     first_rows w e ++ o.notes ++ last_rows w place o,
     told-journal w e place o ∙ ap (λ (J : List Rec). J ++ (first_rows w e ++ o.notes ++ last_rows w place o)) act.put.journal,
     Each-append P (first_rows w e ++ o.notes) (last_rows w place o)
-        (Each-append P (first_rows w e) o.notes (first-calm P k w e) (Each-weaker (SomeNote place) P (λ r h. notes place h.0 r who h.2) o.notes act.notes))
+        (Each-append P (first_rows w e) o.notes (first-calm P k w e) (Each-weaker (SomeNote place) P (allowed place who) o.notes act.notes))
         (last-calm P k w place o (gifts-calm P k place o.gave act.gave) (timers-calm P k place o.timers act.timers)),
   )
 

@@ -4,7 +4,7 @@ use Rattle.std.proofs.Common.{◌≡◌, ℕ, Bool, true, false, cond, nat_lt, L
 use Rattle.std.specs.Prelude.{◌⊎◌}
 use Rattle.std.proofs.lemmas.Bool.{cond_both}
 use Rattle.std.specs.FinMap as table
-use Rattle.lard_law_view.specs.Prelude.{BackIn, Client, ClientBlock, Event, Front, FrontIn, HasRule, IsViewed, Job, Machine, Node, NodeState, Packet, Place, Rec, Station, StepFault, ToClient, Turn, What, client_aborts, client_acted, client_acts, client_gets, client_goes_on, client_holds, client_injects, client_opens, client_shuts, client_takes, client_timer, client_writes, clocked, completes, decoded, delivered, disk_at, from_place, front_acts, front_gave, front_setting, front_step, happens, is_client_armed, is_no_job, is_no_node, job_at, limit_reached, lost, machine_opened, machine_step, machine_to_client, machine_to_front, machine_told, machine_wrote, node_acts, node_at, node_gave, node_setting, node_step, packet_at, passed, request, timer, to_place, unless_limit, written_len}
+use Rattle.lard_law_view.specs.Prelude.{BackIn, Client, ClientBlock, Event, Front, FrontIn, HasRule, IsViewed, Job, Machine, MayDrain, Node, NodeState, Packet, Place, Rec, Station, StepFault, ToClient, Turn, What, client_aborts, client_acted, client_acts, client_gets, client_goes_on, client_holds, client_injects, client_opens, client_shuts, client_takes, client_timer, client_writes, clocked, completes, decoded, delivered, disk_at, drained, from_place, front_acts, front_gave, front_setting, front_step, happens, has_other_open, is_client_armed, is_no_job, is_no_node, job_at, limit_reached, lost, machine_opened, machine_step, machine_to_client, machine_to_front, machine_told, machine_wrote, node_acts, node_at, node_gave, node_setting, node_step, packet_at, passed, request, timer, to_place, unless_limit, written_len}
 use Rattle.lard_base.specs.declared.event.Event.TheVariants as event
 use Rattle.lard_law_connections.proofs.Calm.{Allows, AllowsNotes, AtClock, IsCalm, OnlyAct, passed-calm, step-calm}
 use Rattle.lard_law_view.proofs.Heads.{ActsAt}
@@ -72,6 +72,7 @@ pub record Passes (m : Machine) (e : Event) (n : Machine) : Type 0 where
 -- The front end gets this, and moves.
 pub record FrontStep (m : Machine) (e : Event) (n : Machine) : Type 0 where
   pub comes : FrontIn
+  pub may : MayDrain m.front comes
   pub is : n ≡ front_gave m e (behind e) (front_step (front_setting m) m.front comes)
   pub no_node : NodeActs m e → ⊥
 
@@ -125,8 +126,8 @@ module _ (m : Machine) where
     passed-form : IsUntimed e → IsOther e → IsForm m e (passed m e (behind e))
     passed-form untimed other = InPasses (record { is = refl; untimed = untimed; other = other })
 
-    gets-form : (NodeActs m e → ⊥) → (x : FrontIn) → IsForm m e (front_acts m e (behind e) x)
-    gets-form no_node x = InFront (record { comes = x; is = refl; no_node = no_node })
+    gets-form : (NodeActs m e → ⊥) → (x : FrontIn) → MayDrain m.front x → IsForm m e (front_acts m e (behind e) x)
+    gets-form no_node x may = InFront (record { comes = x; may = may; is = refl; no_node = no_node })
 
     module _ (untimed : IsUntimed e) (no_front : FrontActs m e → ⊥) where
       acts-form : (i : ℕ) (x : BackIn) (o : Option NodeState) → node_at m.nodes i ≡ o → IsOther e → ((s : NodeState) → Comes m e i s x) → IsForm m e (node_acts m e (behind e) i x o)
@@ -164,7 +165,7 @@ module _ (m : Machine) where
   timer-form : (p : Place) (c : ℕ) (o : Option Station) → table.get m.clients c ≡ o → Formed m (event.Timer p c) (timer m p c o)
   unfolding timer
   timer-form p c None at = tt
-  timer-form Front c (Some x) at = gets-form (event.Timer Front c) (λ h. let no : Some Front ≡ Some (Node h.0) = h.1 [] in cc) (input.Timer c)
+  timer-form Front c (Some x) at = gets-form (event.Timer Front c) (λ h. let no : Some Front ≡ Some (Node h.0) = h.1 [] in cc) (input.Timer c) tt
   timer-form (Client d) c (Some x) at = goes-form (event.Timer (Client d) c) tt (client-no-front d) (client-no-node d) [] c x (client_timer x.client)
   timer-form (Node i) c (Some x) at = either (event.Timer (Node i) c) (is_no_node m.config.nodes i) _ _ tt
       (acts-form (event.Timer (Node i) c) tt (node-no-front i) i (back.Timer c) (node_at m.nodes i) refl tt (λ s. (refl, x, at)))
@@ -181,12 +182,12 @@ module _ (m : Machine) where
 
     front-gets : (NodeActs m e → ⊥) → (c : ℕ) (o : Option Station) → IsForm m e (machine_to_front m k p.bytes c o)
     front-gets no_node c None = passed-form e tt tt
-    front-gets no_node c (Some x) = gets-form e no_node (input.Segment c (record { 0 = x.iss }) p.bytes)
+    front-gets no_node c (Some x) = gets-form e no_node (input.Segment c (record { 0 = x.iss }) p.bytes) tt
 
     from-form : (NodeActs m e → ⊥) → (from : Place) → IsForm m e (from_place m k p.bytes from)
     from-form no_node (Client c) = front-gets no_node c (table.get m.clients c)
     from-form no_node Front = passed-form e tt tt
-    from-form no_node (Node i) = gets-form e no_node (input.Message i p.bytes)
+    from-form no_node (Node i) = gets-form e no_node (input.Message i p.bytes) tt
 
     client-gets-form : (FrontActs m e → ⊥) → (NodeActs m e → ⊥) → (c : ℕ) (o : Option Station) → IsForm m e (machine_to_client m k p.bytes c o)
     client-gets-form no_front no_node c None = passed-form e tt tt
@@ -215,6 +216,15 @@ module _ (m : Machine) where
     no_front = λ h. let no : None ≡ Some Front = h [] in cc;
     no_node = λ h. let no : None ≡ Some (Node h.0) = h.1 [] in cc;
   }))
+
+  -- ---- nodes that close
+
+  drained-form : (n : ℕ) → Formed m (event.Drain n) (drained m n)
+  unfolding drained
+  drained-form n = cond_both (is_no_node m.config.nodes n) (Err _) _ (Formed m (event.Drain n)) (λ none. tt)
+      (λ there. cond_both (has_other_open m.front.dispatch.books.loads n) (Ok _) (Err _) (Formed m (event.Drain n))
+      (λ other. gets-form (event.Drain n) (λ h. let no : Some Front ≡ Some (Node h.0) = h.1 [] in cc) (input.Drain n) other)
+      (λ last. tt))
 
   -- ---- disks, and the clock
 
@@ -263,6 +273,7 @@ module _ (m : Machine) where
   happens-form (event.Lose k) = lost-form k (packet_at m.net k)
   happens-form (event.Timer p c) = timer-form p c (table.get m.clients c) refl
   happens-form (event.Disk i j) = completes-form i j
+  happens-form (event.Drain n) = drained-form n
   happens-form (event.Clock ms) = clocked-form ms
   happens-form (event.Settle rounds) = settle-form rounds
 

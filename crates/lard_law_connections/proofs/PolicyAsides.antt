@@ -1,8 +1,10 @@
 -- Records that say nothing of admission, loads and server sets, and what may stand behind what a ledger says.
-use Rattle.std.proofs.Common.{◌≡◌, List, [], ◌∷◌, ◌++◌, Option, Some, None, refl, sym, ap, ◌∙◌, subst}
+use Rattle.std.proofs.Common.{◌≡◌, ℕ, List, [], ◌∷◌, ◌++◌, Option, Some, None, refl, sym, ap, ◌∙◌, subst}
 use Rattle.std.proofs.lemmas.List.Sums.{fold-append}
 use Rattle.std.specs.List.{fold}
-use Rattle.lard_law_view.specs.Prelude.{Client, Config, EachMay, Front, Node, Rec}
+use Rattle.lard_law_view.specs.Prelude.{Client, Config, EachMay, Front, Node, Place, Rec}
+use Rattle.lard_law_view.proofs.Saying.{NotedAt}
+use Rattle.lard_law_view.proofs.Shapes.{NamesNobody}
 use Rattle.lard_law_connections.proofs.Calm.{Allows, AllowsNotes}
 use Rattle.lard_law_connections.proofs.Forms.{IsNoFront}
 use Rattle.lard_law_connections.specs.PolicyLaws.{ArePaired, AssignmentDue, MayAdmit, MayAssign, MayRelease, MayShare, last_record}
@@ -70,7 +72,7 @@ paired-append (Later c) (x ∷ xs) ys h f = absurd h
 
 -- ---- records aside
 
--- it is none of admission and assignments, and none of the clock
+-- it is none of admission, assignments and closed nodes, and none of the clock
 abbrev pub IsAside : Rec → Type 0
 IsAside (rec.Clock time) = ⊥
 IsAside (rec.Waits c) = ⊥
@@ -79,6 +81,7 @@ IsAside (rec.Released c) = ⊥
 IsAside (rec.AssignedFirst c r path n add remove) = ⊥
 IsAside (rec.AssignedLater c r path n add size queue) = ⊥
 IsAside (rec.BatchOver c) = ⊥
+IsAside (rec.Closed n) = ⊥
 IsAside _ = Unit {0}
 
 -- The ledger stays by it, and it may stand anywhere.
@@ -96,6 +99,7 @@ aside (rec.Released c) h = absurd h
 aside (rec.AssignedFirst c r path n add remove) h = absurd h
 aside (rec.AssignedLater c r path n add size queue) h = absurd h
 aside (rec.BatchOver c) h = absurd h
+aside (rec.Closed n) h = absurd h
 aside _ h = record { same = λ l. refl; may = λ cfg l. (tt, tt); follow = λ before l. (tt, tt); pair = λ rs h. h }
 
 pub asides-same : (l : Ledger) (rs : List Rec) → Each IsAside rs → fold ledger_step l rs ≡ l
@@ -130,16 +134,24 @@ allows-aside = record {
   cleared = λ place c kind. tt;
 }
 
+pub named-aside : (place : Place) (c : ℕ) (r : Rec) → IsNoFront place → NotedAt place c r → IsAside r
+named-aside Front c r k h = absurd k
+named-aside (Client e) c (rec.Wrote d bytes) k h = tt
+named-aside (Client e) c (rec.Accepted d bytes) k h = tt
+named-aside (Client e) c (rec.Eof d) k h = tt
+named-aside (Client e) c (rec.Aborted d) k h = tt
+named-aside (Node n) c (rec.Took (Node k) d epoch) _ h = tt
+named-aside (Node n) c (rec.Served (Node k) d r code size via) _ h = tt
+named-aside (Node n) c (rec.Reset (Node k) d total) _ h = tt
+named-aside (Node n) c (rec.Queued k o d r path) _ h = tt
+named-aside (Node n) c (rec.Read k o d r path) _ h = tt
+named-aside (Node n) c (rec.Hit k path) _ h = tt
+named-aside _ c _ k h = absurd h
+
+nobody-aside : (place : Place) (r : Rec) → IsNoFront place → NamesNobody place r → IsAside r
+nobody-aside Front r k h = absurd k
+nobody-aside (Node n) (rec.Hit i path) k h = tt
+nobody-aside _ _ k h = absurd h
+
 pub note-aside : AllowsNotes IsNoFront IsAside
-note-aside Front c r k h = absurd k
-note-aside (Client e) c (rec.Wrote d bytes) k h = tt
-note-aside (Client e) c (rec.Accepted d bytes) k h = tt
-note-aside (Client e) c (rec.Eof d) k h = tt
-note-aside (Client e) c (rec.Aborted d) k h = tt
-note-aside (Node n) c (rec.Took (Node k) d epoch) _ h = tt
-note-aside (Node n) c (rec.Served (Node k) d r code size via) _ h = tt
-note-aside (Node n) c (rec.Reset (Node k) d total) _ h = tt
-note-aside (Node n) c (rec.Queued k o d r path) _ h = tt
-note-aside (Node n) c (rec.Read k o d r path) _ h = tt
-note-aside (Node n) c (rec.Hit k path) _ h = tt
-note-aside _ c _ k h = absurd h
+note-aside = record { named = named-aside; nobody = nobody-aside }

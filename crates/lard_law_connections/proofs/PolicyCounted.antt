@@ -166,7 +166,7 @@ module _ (cfg : Config) (m : Machine) (counted : IsCounted cfg m) where
     moves s =
         let given : FrontState × Out = front_step (front_setting m) m.front s.comes in
         subst (IsCounted cfg) (sym s.is) (moved-counted e given.0 given.1 (step-tells (front_setting m) m.front counted.sound counted.lined counted.ins counted.in_ s.comes)
-        (step-stays (front_setting m) m.front s.comes counted.sound).sound)
+        (step-stays (front_setting m) m.front s.comes s.may counted.sound).sound)
 
     clocks : Clocks m e n → IsCounted cfg n
     clocks c = subst (IsCounted cfg) (sym c.is) (clocked-counted c.ms)

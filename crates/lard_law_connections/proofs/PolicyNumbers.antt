@@ -1,8 +1,8 @@
 -- Each record of admission and of assignments is of a connection's number.
-use Rattle.std.proofs.Common.{◌≡◌, ℕ, ◌+◌, List, [], ◌∷◌, ◌++◌, Ok, refl, sym, ap, ◌∙◌, subst}
+use Rattle.std.proofs.Common.{◌≡◌, ℕ, ◌+◌, List, [], ◌∷◌, ◌++◌, Ok, refl, sym, ap, ◌∙◌, subst, inl, inr}
 use Rattle.lard_law_view.specs.Prelude.{Client, Config, Event, Front, HasRule, IsConnNumber, IsReached, IsViewed, Machine, Node, Out, Place, Rec, clocked, machine_step, machine_told, passed}
 use Rattle.lard_base.specs.declared.event.Event.TheVariants as event
-use Rattle.lard_law_connections.proofs.PolicyAsides.{IsAside, allows-aside, note-aside}
+use Rattle.lard_law_connections.proofs.PolicyAsides.{IsAside, allows-aside, named-aside}
 use Rattle.lard_law_connections.proofs.Calm.{first-calm, first_rows, gifts-calm, last-calm, last_rows, timers-calm, told-journal}
 use Rattle.lard_law_view.proofs.AnyShape.{AnyShape, IsAct, SomeNote, step-any}
 use Rattle.lard_law_view.proofs.Carried.{carried-keep}
@@ -39,9 +39,15 @@ note-numbered Front c (rec.AssignedFirst d r path k add remove) n h = subst IsCo
 note-numbered Front c (rec.AssignedLater d r path k add size queue) n h = subst IsConnNumber (sym h) n
 note-numbered Front c (rec.BatchOver d) n h = subst IsConnNumber (sym h) n
 note-numbered Front c (rec.Released d) n h = subst IsConnNumber (sym h) n
-note-numbered (Node k) c r n h = aside-numbered r (note-aside (Node k) c r tt h)
-note-numbered (Client d) c r n h = aside-numbered r (note-aside (Client d) c r tt h)
+note-numbered (Node k) c r n h = aside-numbered r (named-aside (Node k) c r tt h)
+note-numbered (Client d) c r n h = aside-numbered r (named-aside (Client d) c r tt h)
 note-numbered _ c _ n h = absurd h
+
+some-numbered : (place : Place) (r : Rec) → SomeNote place r → IsNumbered r
+some-numbered place r (inl h) = note-numbered place h.0 r h.1 h.2
+some-numbered Front (rec.Closed n) (inr h) = tt
+some-numbered (Node n) (rec.Hit k path) (inr h) = tt
+some-numbered _ _ (inr h) = absurd h
 
 asides-numbered : (rs : List Rec) → Each IsAside rs → Each IsNumbered rs
 asides-numbered rs e = Each-weaker IsAside IsNumbered aside-numbered rs e
@@ -59,7 +65,7 @@ module _ (m : Machine) where
     first_rows w e ++ o.notes ++ last_rows w place o,
     told-journal w e place o ∙ ap (λ (J : List Rec). J ++ (first_rows w e ++ o.notes ++ last_rows w place o)) act.put.journal,
     Each-append IsNumbered (first_rows w e ++ o.notes) (last_rows w place o)
-        (Each-append IsNumbered (first_rows w e) o.notes (asides-numbered (first_rows w e) (first-calm IsAside allows-aside w e)) (Each-weaker (SomeNote place) IsNumbered (λ r h. note-numbered place h.0 r h.1 h.2) o.notes act.notes))
+        (Each-append IsNumbered (first_rows w e) o.notes (asides-numbered (first_rows w e) (first-calm IsAside allows-aside w e)) (Each-weaker (SomeNote place) IsNumbered (some-numbered place) o.notes act.notes))
         (asides-numbered (last_rows w place o) (last-calm IsAside allows-aside w place o (gifts-calm IsAside allows-aside place o.gave act.gave)
         (timers-calm IsAside allows-aside place o.timers act.timers))),
   )

@@ -2,11 +2,12 @@
 use Rattle.std.proofs.Common.{◌≡◌, ℕ, false, List, [], ◌∷◌, ◌++◌, refl, ap, ◌∙◌}
 use Rattle.std.proofs.lemmas.List.Sums.{fold-append}
 use Rattle.std.specs.List.{fold}
-use Rattle.lard_law_view.specs.Prelude.{Client, EachMay, FilesAt, Front, Node, Rec, Recency}
+use Rattle.lard_law_view.specs.Prelude.{Client, EachMay, FilesAt, Front, Node, Place, Rec, Recency}
 use Rattle.lard_law_connections.proofs.Calm.{Allows, AllowsNotes}
 use Rattle.lard_law_connections.specs.StoresLaws.{MayStore, is_read}
 use Rattle.lard_counts.specs.Stores.{Queue, cache_of, cache_step, jobs, jobs_step, no_jobs, queue_of}
-use Rattle.lard_law_view.proofs.Saying.{NamesAll}
+use Rattle.lard_law_view.proofs.Saying.{NamesAll, NotedAt}
+use Rattle.lard_law_view.proofs.Shapes.{NamesNobody}
 use Rattle.lard_history.proofs.Each.{Each}
 use Rattle.lard_journal.specs.declared.rec.Rec.TheVariants as rec
 
@@ -60,22 +61,30 @@ allows-aside = record {
   cleared = λ place c kind. tt;
 }
 
+named-aside : (place : Place) (c : ℕ) (r : Rec) → NamesAll place → NotedAt place c r → IsAside r
+named-aside (Client e) c (rec.Wrote d bytes) k h = tt
+named-aside (Client e) c (rec.Accepted d bytes) k h = tt
+named-aside (Client e) c (rec.Eof d) k h = tt
+named-aside (Client e) c (rec.Aborted d) k h = tt
+named-aside Front c (rec.Took Front d epoch) k h = tt
+named-aside Front c (rec.Served Front d r code size via) k h = tt
+named-aside Front c (rec.Reset Front d total) k h = tt
+named-aside Front c (rec.Waits d) k h = tt
+named-aside Front c (rec.Admitted d) k h = tt
+named-aside Front c (rec.AssignedFirst d r path n add remove) k h = tt
+named-aside Front c (rec.AssignedLater d r path n add size queue) k h = tt
+named-aside Front c (rec.BatchOver d) k h = tt
+named-aside Front c (rec.Released d) k h = tt
+named-aside (Node n) c r k h = absurd k
+named-aside _ c _ k h = absurd h
+
+nobody-aside : (place : Place) (r : Rec) → NamesAll place → NamesNobody place r → IsAside r
+nobody-aside Front (rec.Closed n) k h = tt
+nobody-aside (Node n) r k h = absurd k
+nobody-aside _ _ k h = absurd h
+
 pub note-aside : AllowsNotes NamesAll IsAside
-note-aside (Client e) c (rec.Wrote d bytes) k h = tt
-note-aside (Client e) c (rec.Accepted d bytes) k h = tt
-note-aside (Client e) c (rec.Eof d) k h = tt
-note-aside (Client e) c (rec.Aborted d) k h = tt
-note-aside Front c (rec.Took Front d epoch) k h = tt
-note-aside Front c (rec.Served Front d r code size via) k h = tt
-note-aside Front c (rec.Reset Front d total) k h = tt
-note-aside Front c (rec.Waits d) k h = tt
-note-aside Front c (rec.Admitted d) k h = tt
-note-aside Front c (rec.AssignedFirst d r path n add remove) k h = tt
-note-aside Front c (rec.AssignedLater d r path n add size queue) k h = tt
-note-aside Front c (rec.BatchOver d) k h = tt
-note-aside Front c (rec.Released d) k h = tt
-note-aside (Node n) c r k h = absurd k
-note-aside _ c _ k h = absurd h
+note-aside = record { named = named-aside; nobody = nobody-aside }
 
 -- ---- behind a journal
 

@@ -194,7 +194,7 @@ gaves-others place c q net rs n e = seen-none c q net rs n (of-whose c rs (gaves
 abbrev pub IsStill : Rec → Type 0
 IsStill r = (is_opening r ≡ false) × ((net : List Packet) → net_step net r ≡ net)
 
-note-passes : (r : Rec) → IsNote r → IsStill r
+pub note-passes : (r : Rec) → IsNote r → IsStill r
 note-passes (rec.Event i e) h = absurd h
 note-passes (rec.Inner e) h = absurd h
 note-passes (rec.Sent k from to bytes) h = absurd h
