@@ -9,7 +9,7 @@ use Rattle.lard_laws.proofs.AsksQueues.{Moved, acts-moved}
 use Rattle.lard_laws.proofs.AsksSending.{asks_in}
 use Rattle.lard_laws.proofs.AsksSends.{IsNoNode, PartsAsk, ask-unsent, other-asks}
 use Rattle.lard_laws.proofs.AsksSteps.{Told}
-use Rattle.lard_law_view.proofs.OfKinds.{gave-unsent, note-unsent, timer-unsent}
+use Rattle.lard_law_view.proofs.OfKinds.{gave-unsent, noted-unsent, timer-unsent}
 use Rattle.lard_law_view.proofs.RecordKinds.{IsUnsent}
 use Rattle.lard_law_connections.proofs.MotionPicking.{pick, pick-append, pick-none}
 use Rattle.lard_law_connections.proofs.PlacesTurns.{IsPlaced}
@@ -18,7 +18,7 @@ use Rattle.lard_law_connections.proofs.Calm.{Allows, first_rows, gifts-calm, las
 use Rattle.lard_law_connections.proofs.Forms.{NodeActs}
 use Rattle.lard_law_connections.proofs.StoresStored.{jobs-told}
 use Rattle.lard_law_view.specs.View.{sending}
-use Rattle.lard_law_view.proofs.AnyShape.{AnyShape, IsAct, SomeGift, SomeNote, SomeTimer, step-any}
+use Rattle.lard_law_view.proofs.AnyShape.{AnyShape, IsAct, SomeGift, SomeNote, SomeTimer, some-noted, step-any}
 use Rattle.lard_law_view.proofs.Heads.{ActsAt}
 use Rattle.lard_law_view.proofs.Parts.{node-set}
 use Rattle.lard_history.proofs.Each.{Each, Each-append, Each-weaker}
@@ -123,7 +123,7 @@ module _ (m : Machine) where
       let M : List Rec = sent_records (length (segments_sent w place o) + 1) place o.messages in
       let before : List Rec = first_rows w e ++ o.notes in
       let last : List Rec = last_rows w place o in
-      let first : Each IsUnsent before = Each-append IsUnsent (first_rows w e) o.notes (tt, behind-unsent e) (Each-weaker (SomeNote place) IsUnsent (λ r k. note-unsent place k.0 r k.2) o.notes act.notes) in
+      let first : Each IsUnsent before = Each-append IsUnsent (first_rows w e) o.notes (tt, behind-unsent e) (Each-weaker (SomeNote place) IsUnsent (λ r k. noted-unsent r (some-noted place r k)) o.notes act.notes) in
       let gave : Each IsUnsent o.gave = Each-weaker (SomeGift place) IsUnsent (λ r k. gave-unsent place k.0 r k.1) o.gave act.gave in
       let timers : Each IsUnsent o.timers = Each-weaker (SomeTimer place) IsUnsent (λ r k. timer-unsent place k.0 r k.1) o.timers act.timers in
       let none : Each IsNoJob last = last-calm IsNoJob allows-no-job w place o (gifts-calm IsNoJob allows-no-job place o.gave act.gave) (timers-calm IsNoJob allows-no-job place o.timers act.timers) in

@@ -48,7 +48,6 @@ module _ (files : FilesAt) (m : WayMarks) where
   aside-steady c none (rec.AssignedLater d r path n add size queue) own a = absurd a
   aside-steady c none (rec.BatchOver d) own a = absurd a
   aside-steady c none (rec.Released d) own a = absurd a
-  aside-steady c none (rec.Closed n) own a = (tt, tt)
   aside-steady c none _ own a = absurd own
 
   asides-steady : (c : ℕ) → m.assigned ≡ [] → (rs : List Rec) → Each (NotedAt Front c) rs → Each IsAside rs → Each (IsSteady files m) rs

@@ -6,12 +6,12 @@ use Rattle.lard_law_view.specs.Prelude.{Came, Client, ClientBlock, Conn, Front, 
 use Rattle.lard_law_view.specs.View.{sending}
 use Rattle.lard_law_view.proofs.Fine.{IsItsOwn}
 use Rattle.lard_law_view.proofs.Frames.{IsAtMachine, IsHeadAt, KeepsAt}
-use Rattle.lard_law_view.proofs.Saying.{NotedAt, note-still}
+use Rattle.lard_law_view.proofs.Saying.{NotedAt, note-kind, note-passes}
 use Rattle.lard_law_view.proofs.Timers.{IsTimerAt, timer_rows-are}
 use Rattle.lard_history.proofs.Each.{Each, Each-append, Each-weaker}
 use Rattle.lard_journal.specs.declared.rec.Rec.TheVariants as rec
-use Rattle.lard_law_view.proofs.OfKinds.{by-machine, of-gifts, rest_of, rest-each, rows-are, timers}
-use Rattle.lard_law_view.proofs.RecordKinds.{IsByMachine, kind_of}
+use Rattle.lard_law_view.proofs.OfKinds.{of-gifts, rest-each, rest_of, rows-are, timers}
+use Rattle.lard_law_view.proofs.RecordKinds.{IsByMachine, IsOfPlace, any-kind, kind_of, machine-kind}
 
 -- ---- records of a machine
 
@@ -45,8 +45,12 @@ sends-machine : (place : Place) (ss : List (Place × List ℕ)) → IsMachine pl
 sends-machine place [] m = tt
 sends-machine place (s ∷ ss) m = ((refl, not-client place m), sends-machine place ss m)
 
+-- what such a place notes
+pub kind-machine : (place : Place) (r : Rec) → IsMachine place → IsOfPlace place (kind_of r) → IsOfMachine r
+kind-machine place r m k = ((note-passes r (any-kind place (kind_of r) k)).0, note-other r (machine-kind place (kind_of r) m k))
+
 pub note-machine : (place : Place) (c : ℕ) (r : Rec) → IsMachine place → NotedAt place c r → IsOfMachine r
-note-machine place c r m h = ((note-still place c r h).0, note-other r (by-machine place c r h m))
+note-machine place c r m h = kind-machine place r m (note-kind place c r h)
 
 -- all that it tells of its connection
 pub rows-machine : (x : Conn) (v : Move) → IsMachine v.place → IsItsOwn x v → Each IsOfMachine (rows_of x v)

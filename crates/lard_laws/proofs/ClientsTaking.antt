@@ -6,11 +6,11 @@ use Rattle.lard_base.specs.declared.event.Event.TheVariants as event
 use Rattle.lard_law_connections.proofs.BytesClientMoves.{was-between}
 use Rattle.lard_laws.specs.ClientsFirsts.{CountsTaken, HasOneFirst, StandsAsTold}
 use Rattle.lard_laws.specs.ClientsLaws.{ClientsTakeInOrder}
-use Rattle.lard_laws.proofs.ClientsAsides.{IsOfMachine, note-machine}
+use Rattle.lard_laws.proofs.ClientsAsides.{IsOfMachine, kind-machine, note-machine}
 use Rattle.lard_laws.proofs.ClientsBegins.{one-first}
 use Rattle.lard_laws.proofs.ClientsCounts.{counts-taken, packet-known}
 use Rattle.lard_laws.proofs.ClientsWriters.{stand-as-told}
-use Rattle.lard_law_view.proofs.AnyShape.{SomeGift, SomeNote, SomeTimer}
+use Rattle.lard_law_view.proofs.AnyShape.{SomeGift, SomeNote, SomeTimer, some-kind}
 use Rattle.lard_law_view.proofs.Acts.{ActsAlone, ActsMany, IsPassing, IsStepOf, Moves, said_rows, step_acts}
 use Rattle.lard_law_view.proofs.Carried.{IsOn, carried-keep}
 use Rattle.lard_law_view.proofs.Fine.{IsFine, fine}
@@ -149,7 +149,7 @@ module _ (m : Machine) (view : IsViewed m) (known : (q : ℕ) → IsKnown (conn 
   many-take : ActsMany P m e adds → EachMay MayTake m.journal (rec.Event (m.events + 1) e ∷ adds)
   many-take a =
       let o : Out = a.o in
-      let notes : Each TakesNothing o.notes = Each-weaker (SomeNote a.place) TakesNothing (λ r h. machine-nothing r (note-machine a.place h.0 r a.machine h.2)) o.notes a.act.notes in
+      let notes : Each TakesNothing o.notes = Each-weaker (SomeNote a.place) TakesNothing (λ r h. machine-nothing r (kind-machine a.place r a.machine (some-kind a.place r h))) o.notes a.act.notes in
       subst (λ (rs : List Rec). EachMay MayTake m.journal (rec.Event (m.events + 1) e ∷ rs)) (sym a.are)
       (said-take a.place o.notes o.segments o.gave o.messages o.timers (all-may (m.journal ++ begun) o.notes notes)
       (Each-weaker (SomeGift a.place) TakesNothing (λ r h. outer-gift TakesNothing outer-nothing a.place h.0 r h.1) o.gave a.act.gave)

@@ -4,9 +4,9 @@ use Rattle.lard_base.specs.declared.event.Event.TheVariants as event
 use Rattle.lard_history.proofs.Each.{Each, Each-append, Each-weaker}
 use Rattle.lard_journal.specs.declared.rec.Rec.TheVariants as rec
 use Rattle.lard_law_view.specs.Prelude.{Config, Event, IsReached, Machine, Out, Place, Rec, clocked, conn_of, machine_told, segments_sent, sent_records, told_rows}
-use Rattle.lard_law_view.proofs.AnyShape.{AnyShape, IsAct, SomeGift, SomeNote, SomeSent, SomeTimer, step-any}
+use Rattle.lard_law_view.proofs.AnyShape.{AnyShape, IsAct, SomeGift, SomeNote, SomeSent, SomeTimer, some-noted, step-any}
 use Rattle.lard_law_view.proofs.Carried.{carried-keep}
-use Rattle.lard_law_view.proofs.OfKinds.{gave-unsent, note-unsent, timer-unsent}
+use Rattle.lard_law_view.proofs.OfKinds.{gave-unsent, noted-unsent, timer-unsent}
 use Rattle.lard_law_view.proofs.OwnRecords.{behind}
 use Rattle.lard_law_view.proofs.RecordKinds.{IsUnsent}
 use Rattle.lard_law_view.proofs.Saying.{between-conn}
@@ -45,7 +45,7 @@ module _ (m : Machine) where
   told-adds w e place o act =
       let S : List Rec = sent_records (length w.net + 1) place o.segments in
       let M : List Rec = sent_records (length (segments_sent w place o) + 1) place o.messages in
-      let notes : Each IsNamed o.notes = all-unsent o.notes (Each-weaker (SomeNote place) IsUnsent (λ r h. note-unsent place h.0 r h.2) o.notes act.notes) in
+      let notes : Each IsNamed o.notes = all-unsent o.notes (Each-weaker (SomeNote place) IsUnsent (λ r h. noted-unsent r (some-noted place r h)) o.notes act.notes) in
       let gave : Each IsNamed o.gave = all-unsent o.gave (Each-weaker (SomeGift place) IsUnsent (λ r h. gave-unsent place h.0 r h.1) o.gave act.gave) in
       let timers : Each IsNamed o.timers = all-unsent o.timers (Each-weaker (SomeTimer place) IsUnsent (λ r h. timer-unsent place h.0 r h.1) o.timers act.timers) in
       record {

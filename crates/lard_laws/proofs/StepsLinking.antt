@@ -6,7 +6,7 @@ use Rattle.lard_law_view.specs.Prelude.{Config, Event, IsReached, Machine, Out, 
 use Rattle.lard_base.specs.declared.event.Event.TheVariants as event
 use Rattle.lard_laws.specs.StepsLaws.{SettingsStay}
 use Rattle.lard_law_view.proofs.After.{IsAfter, step-after}
-use Rattle.lard_law_view.proofs.AnyShape.{AnyShape, IsAct, SomeGift, SomeNote, SomeTimer, step-any}
+use Rattle.lard_law_view.proofs.AnyShape.{AnyShape, IsAct, SomeGift, SomeNote, SomeTimer, some-noted, step-any}
 use Rattle.lard_law_view.proofs.Carried.{carried-keep}
 use Rattle.lard_law_view.proofs.Heads.{ActsAt}
 use Rattle.lard_law_view.proofs.Shapes.{IsPut}
@@ -14,7 +14,7 @@ use Rattle.lard_history.proofs.Each.{Each, Each-weaker}
 use Rattle.lard_journal.specs.declared.rec.Rec.TheVariants as rec
 use Rattle.lard_law_view.proofs.Packets.{IsUncounted, Linked, delivers, loses, sents, uncounted-all}
 use Rattle.lard_law_view.proofs.OwnRecords.{behind}
-use Rattle.lard_law_view.proofs.OfKinds.{noted as noted_kind, of-gift, of-timer}
+use Rattle.lard_law_view.proofs.OfKinds.{of-gift, of-timer}
 use Rattle.lard_law_view.proofs.RecordKinds.{IsNote}
 
 -- a state's journal is one of its packets and responses
@@ -79,7 +79,7 @@ module _ (m : Machine) (l : IsLinked m) where
   unfolding machine_told
   told-linked w e place o act =
       let put : IsPut m w = act.put in
-      let notes : Each IsUncounted o.notes = Each-weaker (SomeNote place) IsUncounted (λ r h. note-uncounted r (noted_kind place h.0 r h.2)) o.notes act.notes in
+      let notes : Each IsUncounted o.notes = Each-weaker (SomeNote place) IsUncounted (λ r h. note-uncounted r (some-noted place r h)) o.notes act.notes in
       let gave : Each IsIdle o.gave = Each-weaker (SomeGift place) IsIdle (λ r h. of-gift IsIdle (λ p d epoch. (tt, λ n. refl)) place h.0 r h.1) o.gave act.gave in
       let timers : Each IsIdle o.timers = Each-weaker (SomeTimer place) IsIdle (λ r h. of-timer IsIdle (λ p d kind. ((tt, λ n. refl), (tt, λ n. refl))) place h.0 r h.1) o.timers act.timers in
       let A : List Rec = rec.Event (w.events + 1) e ∷ behind e in

@@ -9,7 +9,7 @@ use Rattle.lard_law_view.proofs.AnyShape.{AnyShape, IsAct, SomeGift, SomeNote, S
 use Rattle.lard_law_view.proofs.Carried.{carried-keep}
 use Rattle.lard_law_view.proofs.Heads.{ActsAt}
 use Rattle.lard_law_view.proofs.Saying.{GaveAt, NotedAt}
-use Rattle.lard_law_view.proofs.Shapes.{IsPut}
+use Rattle.lard_law_view.proofs.Shapes.{IsPut, NamesNobody}
 use Rattle.lard_law_view.proofs.Timers.{IsTimerAt}
 use Rattle.lard_history.proofs.Acting.{IsActing, IsAt, IsInside, acting-lawful, comes-acting, named-acting, placeless-acts}
 use Rattle.lard_history.proofs.Counts.{last_event-append}
@@ -60,7 +60,6 @@ note-here Front c (rec.AssignedFirst d r path n add remove) h = (inl refl, (λ k
 note-here Front c (rec.AssignedLater d r path n add size queue) h = (inl refl, (λ k. (refl, tt)), tt)
 note-here Front c (rec.BatchOver d) h = (inl refl, (λ k. (refl, tt)), tt)
 note-here Front c (rec.Released d) h = (inl refl, (λ k. (refl, tt)), tt)
-note-here Front c (rec.Closed n) h = (inl refl, (λ k. (refl, tt)), tt)
 note-here (Node n) c (rec.Took (Node j) d epoch) h = (inr (ap (λ i. Some (Node i)) h.0), (λ k. (refl, tt)), tt)
 note-here (Node n) c (rec.Served (Node j) d r code size via) h = (inr (ap (λ i. Some (Node i)) h.0), (λ k. (refl, tt)), tt)
 note-here (Node n) c (rec.Reset (Node j) d total) h = (inr (ap (λ i. Some (Node i)) h.0), (λ k. (refl, tt)), tt)
@@ -68,6 +67,15 @@ note-here (Node n) c (rec.Queued j o d r path) h = (inr (ap (λ i. Some (Node i)
 note-here (Node n) c (rec.Read j o d r path) h = (inr (ap (λ i. Some (Node i)) h.0), (λ k. (refl, tt)), tt)
 note-here (Node n) c (rec.Hit j path) h = (inr (ap (λ i. Some (Node i)) h), (λ k. (refl, tt)), tt)
 note-here _ c _ h = absurd h
+
+nobody-here : (p : Place) (r : Rec) → NamesNobody p r → IsHere p r
+nobody-here Front (rec.Closed n) h = (inl refl, (λ k. (refl, tt)), tt)
+nobody-here (Node n) (rec.Hit j path) h = (inr (ap (λ i. Some (Node i)) h), (λ k. (refl, tt)), tt)
+nobody-here _ _ h = absurd h
+
+some-here : (p : Place) (r : Rec) → SomeNote p r → IsHere p r
+some-here p r (inl h) = note-here p h.0 r h.2
+some-here p r (inr h) = nobody-here p r h
 
 gave-here : (p : Place) (c : ℕ) (r : Rec) → GaveAt p c r → IsHere p r
 gave-here Front c (rec.Gave Front d epoch) h = (inr refl, (λ k. (refl, tt)), tt)
@@ -100,7 +108,7 @@ pub record AreHere (p : Place) (o : Out) : Type 0 where
 
 pub act-here : (m w : Machine) (e : Event) (p : Place) (o : Out) → IsAct m w e p o → AreHere p o
 act-here m w e p o act = record {
-  notes = Each-weaker (SomeNote p) (IsHere p) (λ r h. note-here p h.0 r h.2) o.notes act.notes;
+  notes = Each-weaker (SomeNote p) (IsHere p) (some-here p) o.notes act.notes;
   gave = Each-weaker (SomeGift p) (IsHere p) (λ r h. gave-here p h.0 r h.1) o.gave act.gave;
   timers = Each-weaker (SomeTimer p) (IsHere p) (λ r h. timer-here p h.0 r h.1) o.timers act.timers;
 }

@@ -11,7 +11,7 @@ use Rattle.lard_base.specs.declared.place.TimerKind.TheVariants.{Tcp, Offer, Ask
 use Rattle.lard_laws.specs.StepsTimers.{RunsAsKept, TimersChangeInSteps, TimersRunAsKept, armed_at, client_armed}
 use Rattle.lard_law_view.specs.View.{sending}
 use Rattle.lard_law_view.proofs.Acts.{ActsAlone, ActsMany, AreApart, IsPassing, IsStepOf, Moving, step_acts, timers_in}
-use Rattle.lard_law_view.proofs.AnyShape.{SomeGift, SomeNote}
+use Rattle.lard_law_view.proofs.AnyShape.{SomeGift, SomeNote, some-noted}
 use Rattle.lard_law_view.proofs.After.{IsAfter, step-after}
 use Rattle.lard_law_view.proofs.Carried.{IsOn, carried, carried-keep, on-setting}
 use Rattle.lard_law_view.proofs.Fine.{IsFine, IsItsOwn, fine}
@@ -287,7 +287,7 @@ module _ (m : Machine) (view : IsViewed m) (kept : (c : ℕ) → RunsAsKept m c)
   many-change a =
       subst (λ (rs : List Rec). ChangesTimers m.journal (first ∷ rs)) (sym a.are)
       (spoken-changes a.place a.o.notes a.o.segments a.o.gave a.o.messages a.o.timers
-      (Each-weaker (SomeNote a.place) (λ r. is_change r ≡ false) (λ r h. still-note a.place h.0 r h.2) a.o.notes a.act.notes)
+      (Each-weaker (SomeNote a.place) (λ r. is_change r ≡ false) (λ r h. note-stays r (some-noted a.place r h)) a.o.notes a.act.notes)
       (Each-weaker (SomeGift a.place) (λ r. is_change r ≡ false) (λ r h. still-gave a.place h.0 r h.1) a.o.gave a.act.gave)
       (subst (λ (rs : List Rec). list_all is_change rs ≡ true) (sym a.timers) (moving-all a.moving))
       (subst (Exactly m.journal) (sym a.timers) (moving-exactly a.moving a.apart a.moves)))

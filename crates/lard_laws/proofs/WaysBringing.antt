@@ -7,6 +7,7 @@ use Rattle.lard_law_view.specs.Prelude.{Client, Event, FilesAt, Front, Has, IsVi
 use Rattle.lard_base.specs.declared.event.Event.TheVariants as event
 use Rattle.lard_law_connections.proofs.Calm.{first_rows, last_rows, told-journal}
 use Rattle.lard_law_connections.proofs.Happened.{deliver-is}
+use Rattle.lard_law_view.proofs.AnyShape.{SomeNote, some-noted}
 use Rattle.lard_law_view.proofs.Saying.{GaveAt, NamesAll, NotedAt, note-of}
 use Rattle.lard_law_view.proofs.Timers.{IsTimerAt}
 use Rattle.lard_laws.specs.WaysContents.{MayBring, MustBring, SendsFile}
@@ -18,7 +19,7 @@ use Rattle.lard_message.specs.declared.message.Body.TheVariants as body
 use Rattle.lard_rules.specs.declared.node.BackIn.TheVariants as back
 use Rattle.lard_law_view.proofs.EndpointSends.{AllTo}
 use Rattle.lard_law_view.proofs.OwnRecords.{behind}
-use Rattle.lard_law_view.proofs.OfKinds.{note-unsent, of-gift, of-timer}
+use Rattle.lard_law_view.proofs.OfKinds.{noted-unsent, of-gift, of-timer}
 use Rattle.lard_law_view.proofs.RecordKinds.{IsUnsent}
 
 -- ---- records that send no content from a node to a node
@@ -43,8 +44,8 @@ unsent-plain : (r : Rec) → IsUnsent r → IsPlain r
 unsent-plain (rec.Sent k from to bytes) h = absurd h
 unsent-plain _ h = tt
 
-pub note-plain : (place : Place) (c : ℕ) (r : Rec) → NotedAt place c r → IsPlain r
-note-plain place c r h = unsent-plain r (note-unsent place c r h)
+pub note-plain : (place : Place) (r : Rec) → SomeNote place r → IsPlain r
+note-plain place r h = unsent-plain r (noted-unsent r (some-noted place r h))
 
 pub gave-plain : (place : Place) (c : ℕ) (r : Rec) → GaveAt place c r → IsPlain r
 gave-plain = of-gift IsPlain (λ p d epoch. tt)

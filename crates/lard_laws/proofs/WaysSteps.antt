@@ -33,7 +33,7 @@ record IsFetched (m : Machine) (e : Event) : Type 0 where
   letter_is : letter_of p ≡ record { from = Node its.1.from; to = Node i; bytes = its.1.bytes }
 
 notes-plain : (place : Place) (rs : List Rec) → Each (SomeNote place) rs → Each IsPlain rs
-notes-plain place rs h = Each-weaker (SomeNote place) IsPlain (λ r k. note-plain place k.0 r k.2) rs h
+notes-plain place rs h = Each-weaker (SomeNote place) IsPlain (note-plain place) rs h
 
 gifts-plain : (place : Place) (rs : List Rec) → Each (SomeGift place) rs → Each IsPlain rs
 gifts-plain place rs h = Each-weaker (SomeGift place) IsPlain (λ r k. gave-plain place k.0 r k.1) rs h
