@@ -1,10 +1,11 @@
 -- Records that tell no response of a node, and queue no job: all but what nodes note.
-use Rattle.std.proofs.Common.{◌≡◌, Ok}
-use Rattle.lard_law_view.specs.Prelude.{Client, Event, Front, HasRule, IsViewed, Machine, Node, machine_step}
+use Rattle.std.proofs.Common.{◌≡◌, ℕ, Ok}
+use Rattle.lard_law_view.specs.Prelude.{Client, Event, Front, HasRule, IsViewed, Machine, Node, Place, Rec, machine_step}
 use Rattle.lard_laws.proofs.BackingHitting.{IsStill}
 use Rattle.lard_law_connections.proofs.Calm.{Allows, AllowsNotes, IsCalm, every-clock}
 use Rattle.lard_law_connections.proofs.Forms.{NodesStay, nodes-calm}
-use Rattle.lard_law_view.proofs.Saying.{NamesAll}
+use Rattle.lard_law_view.proofs.Saying.{NamesAll, NotedAt}
+use Rattle.lard_law_view.proofs.Shapes.{NamesNobody}
 use Rattle.lard_journal.specs.declared.rec.Rec.TheVariants as rec
 
 pub allows-still : Allows IsStill
@@ -20,13 +21,21 @@ allows-still = record {
   cleared = λ place c kind. (tt, tt);
 }
 
+named-still : (place : Place) (c : ℕ) (r : Rec) → NamesAll place → NotedAt place c r → IsStill r
+named-still Front c (rec.Served (Node n) d r code size way) k h = absurd h
+named-still (Client e) c (rec.Served (Node n) d r code size way) k h = absurd h
+named-still Front c (rec.Queued n m d r path) k h = absurd h
+named-still (Client e) c (rec.Queued n m d r path) k h = absurd h
+named-still (Node m) c r k h = absurd k
+named-still _ c _ k h = (tt, tt)
+
+nobody-still : (place : Place) (r : Rec) → NamesAll place → NamesNobody place r → IsStill r
+nobody-still Front (rec.Closed n) k h = (tt, tt)
+nobody-still (Node n) r k h = absurd k
+nobody-still _ _ k h = absurd h
+
 note-still : AllowsNotes NamesAll IsStill
-note-still Front c (rec.Served (Node n) d r code size way) k h = absurd h
-note-still (Client e) c (rec.Served (Node n) d r code size way) k h = absurd h
-note-still Front c (rec.Queued n m d r path) k h = absurd h
-note-still (Client e) c (rec.Queued n m d r path) k h = absurd h
-note-still (Node m) c r k h = absurd k
-note-still _ c _ k h = (tt, tt)
+note-still = record { named = named-still; nobody = nobody-still }
 
 -- where no node moves, nothing else is said
 pub stays-still : (m : Machine) → IsViewed m → (e : Event) (n : Machine) → HasRule e → machine_step m e ≡ Ok n → NodesStay m e n → IsCalm IsStill m n
