@@ -9,7 +9,7 @@ use Rattle.lard_agenda.specs.Laws.{is_on_way, way_flag}
 use Rattle.lard_law_view.specs.Prelude.{Event, HasRule, IsViewed, Machine, Out, Packet, Place, Rec, clocked, lose_at, machine_step, machine_told, packet_at, packets_of, passed, segments_sent, sent_records}
 use Rattle.lard_base.specs.declared.event.Event.TheVariants as event
 use Rattle.lard_law_connections.proofs.Calm.{first_rows, last_rows, told-journal}
-use Rattle.lard_law_view.proofs.AnyShape.{AnyShape, IsAct, SomeGift, SomeNote, SomeTimer, step-any}
+use Rattle.lard_law_view.proofs.AnyShape.{AnyShape, IsAct, SomeGift, SomeNote, SomeTimer, some-noted, step-any}
 use Rattle.lard_law_view.proofs.Shapes.{IsPut}
 use Rattle.lard_law_settles.proofs.SettlesKeeping.{packet-stays}
 use Rattle.lard_history.proofs.Each.{Each, Each-weaker}
@@ -103,7 +103,7 @@ module _ (k first : ℕ) where
 
   pub act-little : (m w : Machine) (e : Event) (place : Place) (o : Out) → IsAct m w e place o → SaysLittle o
   act-little m w e place o act = record {
-    notes = Each-weaker (SomeNote place) SaysNone (λ r h. noted-none r (of-kinds.noted place h.0 r h.2)) o.notes act.notes;
+    notes = Each-weaker (SomeNote place) SaysNone (λ r h. noted-none r (some-noted place r h)) o.notes act.notes;
     gave = Each-weaker (SomeGift place) SaysNone (λ r h. of-kinds.of-gift SaysNone (λ p d epoch was. refl) place h.0 r h.1) o.gave act.gave;
     timers = Each-weaker (SomeTimer place) SaysNone (λ r h. of-kinds.of-timer SaysNone (λ p d kind. ((λ was. refl), (λ was. refl))) place h.0 r h.1) o.timers act.timers;
   }

@@ -10,7 +10,7 @@ use Rattle.lard_base.proofs.Usable.{usable}
 use Rattle.lard_laws.proofs.RecordsThere.{only-nodes}
 use Rattle.lard_laws.specs.RecordsMessages.{MayBeThere}
 use Rattle.lard_law_view.proofs.Acts.{ActsAlone, ActsMany, IsPassing, IsStepOf, Moving, said_rows, step_acts, timers_in}
-use Rattle.lard_law_view.proofs.AnyShape.{SomeGift, SomeNote}
+use Rattle.lard_law_view.proofs.AnyShape.{SomeGift, SomeNote, some-noted}
 use Rattle.lard_law_view.proofs.Carried.{IsOn, carried-keep, on-setting}
 use Rattle.lard_law_view.proofs.Fine.{IsFine, IsItsOwn, fine}
 use Rattle.lard_law_view.proofs.Frames.{Owed, clients-leave, fronts-leave, nodes-leave}
@@ -136,7 +136,7 @@ module _ (m : Machine) (view : IsViewed m) (e : Event) (adds : List Rec) where
   many-named a =
       subst AreNamed (sym a.are)
       (said-named e m.net a.place a.o.notes a.o.segments a.o.gave a.o.messages a.o.timers
-      (Each-weaker (SomeNote a.place) IsNamed (λ r h. note-named a.place h.0 r h.2) a.o.notes a.act.notes)
+      (Each-weaker (SomeNote a.place) IsNamed (λ r h. noted-named r (some-noted a.place r h)) a.o.notes a.act.notes)
       (Each-weaker (SomeGift a.place) IsNamed (λ r h. gave-named a.place h.0 r h.1) a.o.gave a.act.gave)
       (subst AreNamed (sym a.timers) (timers-named a.moving a.moves)))
 

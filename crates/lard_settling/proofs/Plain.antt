@@ -2,14 +2,14 @@
 use Rattle.std.proofs.Common.{◌≡◌, ℕ, ◌+◌, List, [], ◌∷◌, ◌++◌, length, Bool, true, false, Ok, refl, ap, ◌∙◌}
 use Rattle.lard_law_view.specs.Prelude.{Event, HasRule, IsViewed, Machine, Out, Place, Rec, clocked, machine_step, machine_told, segments_sent, sent_records, told_rows}
 use Rattle.lard_base.specs.declared.event.Event.TheVariants as event
-use Rattle.lard_law_view.proofs.AnyShape.{AnyShape, IsAct, SomeGift, SomeNote, SomeTimer, step-any}
+use Rattle.lard_law_view.proofs.AnyShape.{AnyShape, IsAct, SomeGift, SomeNote, SomeTimer, some-noted, step-any}
 use Rattle.lard_law_view.proofs.Saying.{GaveAt}
 use Rattle.lard_law_view.proofs.Timers.{IsTimerAt}
 use Rattle.lard_history.proofs.Each.{Each, Each-append, Each-weaker}
 use Rattle.lard_journal.specs.declared.rec.Rec.TheVariants as rec
 pub use Rattle.lard_settling.specs.Settling.{is_mark}
 use Rattle.lard_law_view.proofs.OwnRecords.{behind}
-use Rattle.lard_law_view.proofs.OfKinds.{noted, of-gift, of-sents, of-timer}
+use Rattle.lard_law_view.proofs.OfKinds.{of-gift, of-sents, of-timer}
 use Rattle.lard_law_view.proofs.RecordKinds.{IsNote}
 
 abbrev pub AreUnmarked : List Rec → Type 0
@@ -69,7 +69,7 @@ module _ (m : Machine) where
             (Each-append IsUnmarked (behind e ++ o.notes ++ S ++ o.gave) M
             (Each-append IsUnmarked (behind e ++ o.notes ++ S) o.gave
             (Each-append IsUnmarked (behind e ++ o.notes) S
-            (Each-append IsUnmarked (behind e) o.notes (own-unmarked e) (Each-weaker (SomeNote place) IsUnmarked (λ r h. note-unmarked r (noted place h.0 r h.2)) o.notes act.notes))
+            (Each-append IsUnmarked (behind e) o.notes (own-unmarked e) (Each-weaker (SomeNote place) IsUnmarked (λ r h. note-unmarked r (some-noted place r h)) o.notes act.notes))
             (sents-unmarked (length w.net + 1) place o.segments))
             (Each-weaker (SomeGift place) IsUnmarked (λ r h. gave-unmarked place h.0 r h.1) o.gave act.gave))
             (sents-unmarked (length (segments_sent w place o) + 1) place o.messages))
