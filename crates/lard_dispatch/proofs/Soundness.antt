@@ -172,23 +172,24 @@ leave-kept d c s = record {
   shorter [] h = h
   shorter (w ∷ ws) h = omega arith
 
+-- where another one is open, some node stays open
+pub other-stays : (n : ℕ) (ns : List ℕ) → list_any (λ m. not (nat_eq m n)) ns ≡ true → 0 < length (filter (λ m. not (nat_eq m n)) ns)
+other-stays n [] h = cc
+other-stays n (m ∷ ms) h = go (other-stays n ms) (not (nat_eq m n)) h where
+  go : (list_any (λ m. not (nat_eq m n)) ms ≡ true → 0 < length (filter (λ m. not (nat_eq m n)) ms)) → (b : Bool) → (b || list_any (λ m. not (nat_eq m n)) ms) ≡ true
+      → 0 < length (cond b (m ∷ filter (λ m. not (nat_eq m n)) ms) (filter (λ m. not (nat_eq m n)) ms))
+  go more true t = omega arith
+  go more false t = more t
+
 pub closing-kept : (d : Dispatcher) (n : ℕ) → IsDispatcherSound d → IsNode d.config.nodes n → has_other_open d.books.loads n ≡ true
     → IsDispatcherSound (record d { books = record d.books { loads = tally.tally_closed d.books.loads n; sets = sets.sets_closed d.books.sets n } })
 closing-kept d n s node other = closing where
-  still : (ns : List ℕ) → list_any (λ m. not (nat_eq m n)) ns ≡ true → 0 < length (filter (λ m. not (nat_eq m n)) ns)
-  still [] h = cc
-  still (m ∷ ms) h = go (still ms) (not (nat_eq m n)) h where
-    go : (list_any (λ m. not (nat_eq m n)) ms ≡ true → 0 < length (filter (λ m. not (nat_eq m n)) ms)) → (b : Bool) → (b || list_any (λ m. not (nat_eq m n)) ms) ≡ true
-        → 0 < length (cond b (m ∷ filter (λ m. not (nat_eq m n)) ms) (filter (λ m. not (nat_eq m n)) ms))
-    go more true t = omega arith
-    go more false t = more t
-
   closing : IsDispatcherSound (record d { books = record d.books { loads = tally.tally_closed d.books.loads n; sets = sets.sets_closed d.books.sets n } })
   closing = record {
     usable = s.usable;
     nodes = s.nodes;
     open_nodes = all-filter (IsNode d.config.nodes) (λ m. not (nat_eq m n)) d.books.loads.open_nodes s.open_nodes;
-    some_open = still d.books.loads.open_nodes other;
+    some_open = other-stays n d.books.loads.open_nodes other;
     at_nodes = s.at_nodes;
     served = served-closed d.config.nodes d.books.sets n node s.served;
     room = s.room;
@@ -196,15 +197,16 @@ closing-kept d n s node other = closing where
     apart = s.apart;
   }
 
--- an open node is one of the nodes
+-- a node that is open is one that there is
+pub open-there : (nodes n : ℕ) (ns : List ℕ) → AllByRecursion (IsNode nodes) ns → list_any (nat_eq n) ns ≡ true → IsNode nodes n
+open-there nodes n [] all h = cc
+open-there nodes n (m ∷ ms) all h = go (open-there nodes n ms all.1) (nat_eq n m) refl h where
+  go : (list_any (nat_eq n) ms ≡ true → IsNode nodes n) → (b : Bool) → nat_eq n m ≡ b → (b || list_any (nat_eq n) ms) ≡ true → IsNode nodes n
+  go more true e t = subst (IsNode nodes) (sym (eqb-true n m e)) all.0
+  go more false e t = more t
+
 pub open-node : (d : Dispatcher) (n : ℕ) → IsDispatcherSound d → is_open d.books.loads n ≡ true → IsNode d.config.nodes n
-open-node d n s h = among d.books.loads.open_nodes s.open_nodes h where
-  among : (ns : List ℕ) → AllByRecursion (IsNode d.config.nodes) ns → list_any (nat_eq n) ns ≡ true → IsNode d.config.nodes n
-  among [] all h = cc
-  among (m ∷ ms) all h = go (among ms all.1) (nat_eq n m) refl h where
-    go : (list_any (nat_eq n) ms ≡ true → IsNode d.config.nodes n) → (b : Bool) → nat_eq n m ≡ b → (b || list_any (nat_eq n) ms) ≡ true → IsNode d.config.nodes n
-    go more true e t = subst (IsNode d.config.nodes) (sym (eqb-true n m e)) all.0
-    go more false e t = more t
+open-node d n s h = open-there d.config.nodes n d.books.loads.open_nodes s.open_nodes h
 
 pub close-kept : (d : Dispatcher) (n : ℕ) → IsDispatcherSound d → has_other_open d.books.loads n ≡ true → IsDispatcherSound (after_close d n)
 close-kept d n s other = cond_both (is_open d.books.loads n) _ d IsDispatcherSound (λ t. closing-kept d n s (open-node d n s t) other) (λ _. s)

@@ -66,9 +66,6 @@ all-within l ws (r ∷ rs) h = all-within (line_step l r) (waiting_step ws r) rs
 
 -- ---- who waits at the front end is in the line
 
-equal-turned : (a b : ℕ) → nat_eq a b ≡ nat_eq b a
-equal-turned a b = by_number (nat_eq a b ≡ nat_eq b a) a b (λ e. ap (λ (n : ℕ). nat_eq n b) e ∙ same_number b ∙ sym (ap (nat_eq b) e ∙ same_number b)) (λ n. other_number a b n ∙ sym (other_number b a (λ e. n (sym e))))
-
 waits-has : (c : ℕ) (ws : List Waiting) → list_any (nat_eq c) (who ws) ≡ line_waits ws c
 waits-has c [] = refl
 waits-has c (w ∷ ws) = λ i. equal-turned c w.c i || waits-has c ws i

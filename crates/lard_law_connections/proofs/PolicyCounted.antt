@@ -165,7 +165,7 @@ module _ (cfg : Config) (m : Machine) (counted : IsCounted cfg m) where
     moves : FrontStep m e n → IsCounted cfg n
     moves s =
         let given : FrontState × Out = front_step (front_setting m) m.front s.comes in
-        subst (IsCounted cfg) (sym s.is) (moved-counted e given.0 given.1 (step-tells (front_setting m) m.front counted.sound counted.lined counted.ins counted.in_ s.comes)
+        subst (IsCounted cfg) (sym s.is) (moved-counted e given.0 given.1 (step-tells (front_setting m) m.front counted.sound counted.lined counted.ins counted.in_ s.comes s.may)
         (step-stays (front_setting m) m.front s.comes s.may counted.sound).sound)
 
     clocks : Clocks m e n → IsCounted cfg n
@@ -206,7 +206,7 @@ module _ (cfg : Config) (m : Machine) (counted : IsCounted cfg m) where
     moves : FrontStep m e n → InOrder n
     moves s =
         let given : FrontState × Out = front_step (front_setting m) m.front s.comes in
-        subst InOrder (sym s.is) (moved-ordered e given.0 given.1 (step-tells (front_setting m) m.front counted.sound counted.lined counted.ins counted.in_ s.comes))
+        subst InOrder (sym s.is) (moved-ordered e given.0 given.1 (step-tells (front_setting m) m.front counted.sound counted.lined counted.ins counted.in_ s.comes s.may))
 
     clocks : Clocks m e n → InOrder n
     clocks c = subst InOrder (sym c.is) (clocked-ordered c.ms)
@@ -303,7 +303,7 @@ module _ (config : Config) (files : List (List ℕ × List ℕ)) (m : Machine) (
 pub loads-are-charges : LoadsAreAlwaysCharges
 loads-are-charges config files m checked r past later is =
     let has : HasNodes config (ledger config past) = past-has config files m checked r past later is in
-    ((past-charged config files m checked r past later is).loads, has.nodes, has.open_nodes)
+    ((past-charged config files m checked r past later is).loads, has.nodes, told-open config past)
 
 -- the time of the ledger is the last that was told
 one-time : (l : Ledger) (t : ℕ) (r : Rec) → l.now.0 ≡ t → (ledger_step l r).now.0 ≡ time_step t r
@@ -313,6 +313,7 @@ one-time l t (rec.Released c) h = h
 one-time l t (rec.AssignedFirst c r path n add remove) h = h
 one-time l t (rec.AssignedLater c r path n add size queue) h = h
 one-time l t (rec.BatchOver c) h = h
+one-time l t (rec.Closed n) h = h
 one-time l t _ h = h
 
 all-times : (l : Ledger) (t : ℕ) (rs : List Rec) → l.now.0 ≡ t → (fold ledger_step l rs).now.0 ≡ fold time_step t rs

@@ -69,6 +69,12 @@ module _ (cfg : Config) (now : Millis) (ins : List ℕ) (b : Books) (in_ : AreIn
     after = λ before. ((tt, tt), ((tt, refl), tt));
   }
 
+  -- ---- a node that is closed
+
+  pub close-leads : (n : ℕ) → is_open b.loads n ≡ true → has_other_open b.loads n ≡ true
+      → Leads cfg now ins b (rec.Closed n ∷ []) (record b { loads = tally_closed b.loads n; sets = sets_closed b.sets n })
+  close-leads n opened other = record { more = ins; then = refl; in_ = in_; may = ((tt, (opened, other)), tt); paired = tt; after = λ before. ((tt, tt), tt) }
+
 -- one behind another
 pub both-lead : (cfg : Config) (now : Millis) (ins : List ℕ) (b d e : Books) (xs ys : List Rec) → (one : Leads cfg now ins b xs d) → Leads cfg now one.more d ys e → Leads cfg now ins b (xs ++ ys) e
 both-lead cfg now ins b d e xs ys one two = record {

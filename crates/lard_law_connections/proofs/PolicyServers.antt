@@ -10,6 +10,7 @@ use Rattle.lard_counts.specs.Ledger.{Ledger, blank_ledger, ledger_step, server_s
 use Rattle.lard_law_connections.specs.PolicyServers.{Dated, dated, dated_step, last_mod, serves_step, taken_in, taken_out}
 use Rattle.lard_law_connections.specs.PolicyServers as told
 use Rattle.lard_journal.specs.declared.rec.Rec.TheVariants as rec
+use Rattle.lard_dispatch.proofs.Soundness.{open-there}
 use Rattle.lard_sets.proofs.Changes.{last_change, last_decides, place-put}
 
 abbrev Sets : Type 0
@@ -56,6 +57,7 @@ remove_calls path (Some n) now = Remove path n now ∷ []
 abbrev calls_by : Millis → Rec → List SetCall
 calls_by now (rec.AssignedFirst c r path n add remove) = Touch path ∷ (add_calls path add now ++ remove_calls path remove now)
 calls_by now (rec.AssignedLater c r path n add size queue) = Touch path ∷ add_calls path add now
+calls_by now (rec.Closed n) = Close n ∷ []
 calls_by now _ = []
 
 abbrev calls_of : Ledger → List Rec → List SetCall
@@ -82,6 +84,7 @@ one-sets l (rec.Clock time) = refl
 one-sets l (rec.Admitted c) = refl
 one-sets l (rec.Released c) = refl
 one-sets l (rec.BatchOver c) = refl
+one-sets l (rec.Closed n) = refl
 one-sets l _ = refl
 
 -- a set that was put is there
@@ -105,6 +108,7 @@ one-kept l (rec.AssignedFirst c r path n add remove) = kept-append (touched l.se
     (removes-keep (sets_after_calls (touched l.sets path) (add_calls path add l.now)) path remove l.now
     (ap (λ (s : Sets). has_place s path) (joined-is (touched l.sets path) path add l.now) ∙ joined-there l.sets path add l.now))
 one-kept l (rec.AssignedLater c r path n add size queue) = adds-keep (touched l.sets path) path add l.now
+one-kept l (rec.Closed n) = tt
 one-kept l _ = tt
 
 adds-name : (nodes : ℕ) (path : List ℕ) (add : Option ℕ) (now : Millis) → IfSome add (IsNode nodes) → NameNodes (add_calls path add now)
@@ -148,6 +152,7 @@ module _ (t : List ℕ) (k : ℕ) where
         go true = refl
         go false = refl
   one-serves now was (rec.AssignedLater c r path n add size queue) = adds-serve was path add now
+  one-serves now was (rec.Closed n) = refl
   one-serves now was _ = refl
 
   all-serves : (l : Ledger) (was : Bool) (rs : List Rec) → serves_after_all t k was (calls_of l rs) ≡ fold (serves_step t k) was rs
@@ -215,6 +220,7 @@ module _ (t : List ℕ) where
   one-date l last (rec.Admitted c) = refl
   one-date l last (rec.Released c) = refl
   one-date l last (rec.BatchOver c) = refl
+  one-date l last (rec.Closed n) = refl
   one-date l last _ = refl
 
   all-dates : (l : Ledger) (last : Millis) (rs : List Rec) → changed t last (calls_of l rs) ≡ (fold (dated_step t) (date l last) rs).last
@@ -240,6 +246,7 @@ module _ (cfg : Config) (some : 1 ≤ cfg.nodes) where
       let chosen = first-within cfg some l has path n add remove may.1.1 in
       name-append (add_calls path add l.now) (remove_calls path remove l.now) (adds-name cfg.nodes path add l.now chosen.add) (removes-name cfg.nodes path remove l.now chosen.remove)
   one-names l (rec.AssignedLater c r path n add size queue) has may = adds-name cfg.nodes path add l.now (later-within cfg some l has c path n add queue may.1.0 may.1.1 may.1.2).add
+  one-names l (rec.Closed n) has may = ((open-there cfg.nodes n l.loads.open_nodes has.open_nodes may.1.0).0, tt)
   one-names l _ has may = tt
 
   all-name : (l : Ledger) (rs : List Rec) → HasNodes cfg l → EachFrom (May cfg) l rs → NameNodes (calls_of l rs)

@@ -1,23 +1,26 @@
--- The nodes of a ledger: no node is closed, and all that it names are nodes that there are.
-use Rattle.std.proofs.Common.{◌≡◌, ℕ, zero, suc, ◌≤◌, ◌<◌, nat_eq, List, [], ◌∷◌, length, Option, Some, None, IfSome, Ok, refl, sym, ◌∙◌, subst, arith}
+-- The nodes of a ledger: all that it names are nodes that there are, some are open, and these are those that were not closed.
+use Rattle.std.proofs.Common.{◌≡◌, ℕ, ◌≤◌, ◌<◌, nat_eq, not, List, [], ◌∷◌, length, Option, Some, None, IfSome, Ok, refl, sym, ap, ◌∙◌, subst, arith, Bool, true, false, ◌&&◌, cond, filter}
 use Rattle.std.proofs.lemmas.Bool.{cond_both}
 use Rattle.std.specs.FinMap as map
-use Rattle.std.specs.List.{AllByRecursion, fold, range_with_len}
-use Rattle.lard_law_view.specs.Prelude.{AreAtNodes, AreServedByNodes, Config, FirstChoice, IsDispatcherSound, IsNode, LaterChoice, Rec, Standing, Tally, batch_ended, batch_ended_with, config_check, dispatch_begun, first_choice, home, joined, later_choice, numbers, shared, sharing, touched}
+use Rattle.std.specs.List.{AllByRecursion, fold}
+use Rattle.lard_law_view.specs.Prelude.{AreAtNodes, AreServedByNodes, Config, FirstChoice, IsDispatcherSound, IsNode, LaterChoice, Rec, Standing, Tally, batch_ended, batch_ended_with, config_check, dispatch_begun, first_choice, home, is_node_closed, joined, later_choice, node_closed_step, numbers, shared, sharing, touched}
 use Rattle.lard_law_connections.proofs.PolicyAsides.{EachFrom, May}
-use Rattle.lard_counts.specs.Ledger.{Ledger, blank_ledger, ledger_step, server_set}
+use Rattle.lard_counts.specs.Ledger.{Ledger, blank_ledger, ledger, ledger_step, server_set}
 use Rattle.lard_dispatch.proofs.AllCalls.{some-node}
-use Rattle.lard_dispatch.proofs.Chosen.{IsChosen, all-numbers, choice-within}
+use Rattle.lard_dispatch.proofs.Chosen.{IsChosen, all-filter, choice-within}
 use Rattle.lard_dispatch.proofs.Counted.{later-has}
-use Rattle.lard_dispatch.proofs.Servers.{served-joined, served-reduced, served-touched}
+use Rattle.lard_dispatch.proofs.Servers.{served-closed, served-joined, served-reduced, served-touched}
 use Rattle.lard_dispatch.proofs.Sharing.{add-home}
-use Rattle.lard_dispatch.proofs.Soundness.{begun-sound, home-node}
+use Rattle.lard_dispatch.proofs.Soundness.{begun-sound, home-node, open-there, other-stays}
 use Rattle.lard_dispatch.proofs.Standing.{at-nodes-put}
+use Rattle.lard_history.proofs.Seeing.{by_number, other_number, same_number}
+use Rattle.lard_loads.proofs.Firsts.{filter-all}
 use Rattle.lard_journal.specs.declared.rec.Rec.TheVariants as rec
 
 pub record HasNodes (cfg : Config) (l : Ledger) : Type 0 where
   pub nodes : l.loads.nodes ≡ cfg.nodes
-  pub open_nodes : l.loads.open_nodes ≡ numbers cfg.nodes
+  pub open_nodes : AllByRecursion (IsNode cfg.nodes) l.loads.open_nodes
+  pub some_open : 0 < length l.loads.open_nodes
   pub homes : AreAtNodes cfg.nodes l.loads.standings
   pub served : AreServedByNodes cfg.nodes l.sets
 
@@ -51,18 +54,11 @@ ended-stays cfg t c = go (map.get t.standings c) refl where
 -- ---- choices
 
 module _ (cfg : Config) (some : 1 ≤ cfg.nodes) (l : Ledger) (has : HasNodes cfg l) where
-  some-open : 0 < length l.loads.open_nodes
-  some-open = subst (λ (ns : List ℕ). 0 < length ns) (sym has.open_nodes) (go cfg.nodes some) where
-    go : (k : ℕ) → 1 ≤ k → 0 < length (range_with_len 1 k)
-    go zero h = absurd (omega (arith, h))
-    go (suc k) h = omega arith
-
   pub first-within : (path : List ℕ) (n : ℕ) (add remove : Option ℕ)
       → ◌≡◌ {A = FirstChoice} (record { node = n; add = add; remove = remove }) (first_choice l.loads (server_set l path).members l.now (server_set l path).modified cfg)
       → IsChosen cfg.nodes (record { node = n; add = add; remove = remove })
   first-within path n add remove is = subst (IsChosen cfg.nodes) (sym is)
-      (choice-within l.loads (server_set l path).members l.now (server_set l path).modified cfg cfg.nodes has.nodes
-      (subst (AllByRecursion (IsNode cfg.nodes)) (sym has.open_nodes) (all-numbers cfg.nodes)) some-open)
+      (choice-within l.loads (server_set l path).members l.now (server_set l path).modified cfg cfg.nodes has.nodes has.open_nodes has.some_open)
 
   pub record IsLater (choice : LaterChoice) : Type 0 where
     pub node : IsNode cfg.nodes choice.node
@@ -80,36 +76,104 @@ module _ (cfg : Config) (some : 1 ≤ cfg.nodes) (l : Ledger) (has : HasNodes cf
   -- ---- a record
 
   with-stays : (u : Tally) → Stays cfg l.loads u → HasNodes cfg (record l { loads = u })
-  with-stays u s = record { nodes = s.nodes ∙ has.nodes; open_nodes = s.open_nodes ∙ has.open_nodes; homes = s.homes has.homes; served = has.served }
+  with-stays u s = record {
+    nodes = s.nodes ∙ has.nodes;
+    open_nodes = subst (AllByRecursion (IsNode cfg.nodes)) (sym s.open_nodes) has.open_nodes;
+    some_open = subst (λ (ns : List ℕ). 0 < length ns) (sym s.open_nodes) has.some_open;
+    homes = s.homes has.homes;
+    served = has.served;
+  }
 
   pub one-has : (r : Rec) → May cfg l r → HasNodes cfg (ledger_step l r)
-  one-has (rec.Released c) may = record { nodes = has.nodes; open_nodes = has.open_nodes; homes = at-nodes-put cfg.nodes l.loads.standings c None has.homes tt; served = has.served }
+  one-has (rec.Released c) may = record { nodes = has.nodes; open_nodes = has.open_nodes; some_open = has.some_open; homes = at-nodes-put cfg.nodes l.loads.standings c None has.homes tt; served = has.served }
   one-has (rec.AssignedFirst c r path n add remove) may =
       let chosen : IsChosen cfg.nodes (record { node = n; add = add; remove = remove }) = first-within path n add remove may.1.1 in record {
         nodes = has.nodes;
         open_nodes = has.open_nodes;
+        some_open = has.some_open;
         homes = at-nodes-put cfg.nodes l.loads.standings c (Some (record { home = n; shares = [] })) has.homes chosen.node;
         served = served-reduced cfg.nodes (joined (touched l.sets path) path add l.now) path remove l.now
             (served-joined cfg.nodes (touched l.sets path) path add l.now (served-touched cfg.nodes l.sets path has.served) chosen.add) chosen.remove;
       }
   one-has (rec.AssignedLater c r path n add size queue) may =
       let later : IsLater (record { node = n; add = add }) = later-within c path n add queue may.1.0 may.1.1 may.1.2 in
-      let s : Stays cfg l.loads (shared l.loads c n size) = shared-stays cfg l.loads c n size in record {
-        nodes = s.nodes ∙ has.nodes;
-        open_nodes = s.open_nodes ∙ has.open_nodes;
-        homes = s.homes has.homes;
+      let s : HasNodes cfg (record l { loads = shared l.loads c n size }) = with-stays (shared l.loads c n size) (shared-stays cfg l.loads c n size) in record {
+        nodes = s.nodes;
+        open_nodes = s.open_nodes;
+        some_open = s.some_open;
+        homes = s.homes;
         served = served-joined cfg.nodes (touched l.sets path) path add l.now (served-touched cfg.nodes l.sets path has.served) later.add;
       }
   one-has (rec.BatchOver c) may = with-stays (batch_ended l.loads c) (ended-stays cfg l.loads c)
-  one-has (rec.Clock time) may = record { nodes = has.nodes; open_nodes = has.open_nodes; homes = has.homes; served = has.served }
-  one-has (rec.Admitted c) may = record { nodes = has.nodes; open_nodes = has.open_nodes; homes = has.homes; served = has.served }
+  one-has (rec.Closed n) may = record {
+    nodes = has.nodes;
+    open_nodes = all-filter (IsNode cfg.nodes) (λ m. not (nat_eq m n)) l.loads.open_nodes has.open_nodes;
+    some_open = other-stays n l.loads.open_nodes may.1.1;
+    homes = has.homes;
+    served = served-closed cfg.nodes l.sets n (open-there cfg.nodes n l.loads.open_nodes has.open_nodes may.1.0) has.served;
+  }
+  one-has (rec.Clock time) may = record { nodes = has.nodes; open_nodes = has.open_nodes; some_open = has.some_open; homes = has.homes; served = has.served }
+  one-has (rec.Admitted c) may = record { nodes = has.nodes; open_nodes = has.open_nodes; some_open = has.some_open; homes = has.homes; served = has.served }
   one-has _ may = has
 
 pub blank-has : (cfg : Config) → config_check cfg ≡ Ok tt → HasNodes cfg (blank_ledger cfg)
-blank-has cfg checked = let sound : IsDispatcherSound (dispatch_begun cfg) = begun-sound cfg checked (some-node cfg checked) in record { nodes = refl; open_nodes = refl; homes = sound.at_nodes; served = sound.served }
+blank-has cfg checked = let sound : IsDispatcherSound (dispatch_begun cfg) = begun-sound cfg checked (some-node cfg checked) in record { nodes = refl; open_nodes = sound.open_nodes; some_open = sound.some_open; homes = sound.at_nodes; served = sound.served }
 
 -- ---- a journal
 
 pub all-has : (cfg : Config) → 1 ≤ cfg.nodes → (l : Ledger) (rs : List Rec) → HasNodes cfg l → EachFrom (May cfg) l rs → HasNodes cfg (fold ledger_step l rs)
 all-has cfg some l [] has may = has
 all-has cfg some l (r ∷ rs) has may = all-has cfg some (ledger_step l r) rs (one-has cfg some l has r may.0) may.1
+
+-- ---- which nodes are open
+
+pub equal-turned : (a b : ℕ) → nat_eq a b ≡ nat_eq b a
+equal-turned a b = by_number (nat_eq a b ≡ nat_eq b a) a b (λ e. ap (λ (n : ℕ). nat_eq n b) e ∙ same_number b ∙ sym (ap (nat_eq b) e ∙ same_number b)) (λ n. other_number a b n ∙ sym (other_number b a (λ e. n (sym e))))
+
+-- a filter behind another one
+filters : (p q r : ℕ → Bool) → ((m : ℕ) → (q m && p m) ≡ r m) → (ms : List ℕ) → filter p (filter q ms) ≡ filter r ms
+filters p q r same [] = refl
+filters p q r same (m ∷ ms) = go (q m) refl (filters p q r same ms) where
+  go : (b : Bool) → q m ≡ b → filter p (filter q ms) ≡ filter r ms → filter p (cond b (m ∷ filter q ms) (filter q ms)) ≡ cond (r m) (m ∷ filter r ms) (filter r ms)
+  go true e more =
+      ap (λ c. cond c (m ∷ filter p (filter q ms)) (filter p (filter q ms))) (ap (λ c. c && p m) (sym e) ∙ same m) ∙ ap (λ l. cond (r m) (m ∷ l) l) more
+  go false e more = more ∙ sym (ap (λ c. cond c (m ∷ filter r ms) (filter r ms)) (sym (same m) ∙ ap (λ c. c && p m) e))
+
+-- the nodes that are open behind a record are those that it does not close
+one-open : (cfg : Config) (ns : List ℕ) (l : Ledger) (was : ℕ → Bool) (r : Rec) → l.loads.open_nodes ≡ filter (λ m. not (was m)) ns
+    → (ledger_step l r).loads.open_nodes ≡ filter (λ m. not (node_closed_step m (was m) r)) ns
+one-open cfg ns l was (rec.Closed n) h = ap (filter (λ m. not (nat_eq m n))) h ∙ filters (λ m. not (nat_eq m n)) (λ m. not (was m)) (λ m. not (node_closed_step m (was m) (rec.Closed n)))
+    (λ m. by (was m) (nat_eq m n) ∙ ap (λ b. not (cond b true (was m))) (equal-turned m n)) ns
+  where
+    by : (w b : Bool) → (not w && not b) ≡ not (cond b true w)
+    by true true = refl
+    by true false = refl
+    by false true = refl
+    by false false = refl
+one-open cfg ns l was (rec.AssignedLater c r path n add size queue) h = (shared-stays cfg l.loads c n size).open_nodes ∙ h
+one-open cfg ns l was (rec.BatchOver c) h = (ended-stays cfg l.loads c).open_nodes ∙ h
+one-open cfg ns l was (rec.AssignedFirst c r path n add remove) h = h
+one-open cfg ns l was (rec.Released c) h = h
+one-open cfg ns l was (rec.Admitted c) h = h
+one-open cfg ns l was (rec.Clock time) h = h
+one-open cfg ns l was _ h = h
+
+all-open : (cfg : Config) (ns : List ℕ) (l : Ledger) (was : ℕ → Bool) (rs : List Rec) → l.loads.open_nodes ≡ filter (λ m. not (was m)) ns
+    → (fold ledger_step l rs).loads.open_nodes ≡ filter (λ m. not (fold (node_closed_step m) (was m) rs)) ns
+all-open cfg ns l was [] h = h
+all-open cfg ns l was (r ∷ rs) h = all-open cfg ns (ledger_step l r) (λ m. node_closed_step m (was m) r) rs (one-open cfg ns l was r h)
+
+pub told-open : (cfg : Config) (J : List Rec) → (ledger cfg J).loads.open_nodes ≡ filter (λ n. not (is_node_closed J n)) (numbers cfg.nodes)
+told-open cfg J = all-open cfg (numbers cfg.nodes) (blank_ledger cfg) (λ m. false) J (sym (filter-all (λ m. true) (numbers cfg.nodes) (λ n h. refl)))
+
+-- some node of those that are open
+pub some-stays : (nodes : ℕ) (out : ℕ → Bool) (ns : List ℕ) → AllByRecursion (IsNode nodes) ns → 0 < length (filter (λ n. not (out n)) ns)
+    → (n : ℕ) × (1 ≤ n) × (n ≤ nodes) × (out n ≡ false)
+some-stays nodes out [] all h = absurd (omega (arith, h))
+some-stays nodes out (m ∷ ms) all h = go (out m) refl h (some-stays nodes out ms all.1) where
+  abbrev Some_ : Type 0
+  Some_ = (n : ℕ) × (1 ≤ n) × (n ≤ nodes) × (out n ≡ false)
+
+  go : (b : Bool) → out m ≡ b → 0 < length (cond (not b) (m ∷ filter (λ n. not (out n)) ms) (filter (λ n. not (out n)) ms)) → (0 < length (filter (λ n. not (out n)) ms) → Some_) → Some_
+  go true e t more = more t
+  go false e t more = (m, all.0.0, all.0.1, e)

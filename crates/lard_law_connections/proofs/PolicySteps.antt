@@ -250,10 +250,32 @@ module _ (k : FrontSetting) (s : FrontState) (sound : IsFrontSound s) (lined : A
   message-tells from (Err e) told = still-tells
   message-tells from (Ok m) told = told-tells from m.c m.epoch.0 m.body told
 
-  pub step-tells : (i : FrontIn) → Fine (front_step k s i)
-  step-tells (input.Segment c iss bytes) =
+  drain-tells : (n : ℕ) → MayDrain s (input.Drain n) → Fine (front_drains s n)
+  drain-tells n other = go (is_open s.dispatch.books.loads n) refl where
+    -- by whether it was open
+    abbrev by : Bool → FrontState × Out
+    by b = (
+      record s { dispatch = cond b (record s.dispatch { books = record s.dispatch.books { loads = tally_closed s.dispatch.books.loads n; sets = sets_closed s.dispatch.books.sets n } }) s.dispatch },
+      record nothing_done { notes = cond b (rec.Closed n ∷ []) [] },
+    )
+
+    go : (b : Bool) → is_open s.dispatch.books.loads n ≡ b → Fine (by b)
+    go true opened = record {
+      leads = close-leads s.dispatch.config k.now ins s.dispatch.books in_ n opened other;
+      gave = tt;
+      timers = tt;
+      lined = lined;
+      config = refl;
+      ordered = none-ordered s.dispatch.books.line (rec.Closed n ∷ []) (tt, tt);
+      waits = λ ys within. within;
+    }
+    go false closed = still-tells
+
+  pub step-tells : (i : FrontIn) → MayDrain s i → Fine (front_step k s i)
+  step-tells (input.Segment c iss bytes) may =
       deed-tells c (front_gets (front_env k s c iss.0) (front_part s c) bytes (decoded bytes c ToCluster))
       (gets-tells s.dispatch ins in_ sound.books (front_env k s c iss.0) (env-of c iss.0) (front_part s c) bytes (decoded bytes c ToCluster) (sound.each c))
-  step-tells (input.Message from bytes) = message-tells from (decoded_message bytes) (message-told bytes)
-  step-tells (input.Timer c) =
+  step-tells (input.Message from bytes) may = message-tells from (decoded_message bytes) (message-told bytes)
+  step-tells (input.Drain n) may = drain-tells n may
+  step-tells (input.Timer c) may =
       deed-tells c (front_timer (front_env k s c 0) (front_part s c)) (timer-tells s.dispatch ins in_ sound.books (front_env k s c 0) (env-of c 0) (front_part s c) (sound.each c))
