@@ -1,14 +1,16 @@
 -- In every state that events lead to, the dispatcher is what calls make of it that may be made; so loads are bounded, at every moment.
-use Rattle.std.proofs.Common.{◌≡◌, ℕ, ◌+◌, ◌*◌, ◌≤◌, List, [], ◌∷◌, ◌++◌, Ok, refl, sym, ap, ◌∙◌, subst, append-nil, append_assoc, ⊎_elim, cond, nat_le, count_by, arith}
+use Rattle.std.proofs.Common.{◌≡◌, ℕ, ◌+◌, ◌*◌, ◌≤◌, List, [], ◌∷◌, ◌++◌, Ok, refl, sym, ap, ◌∙◌, subst, append-nil, append_assoc, ⊎_elim, cond, nat_eq, nat_le, count_by, Bool, true, false, arith}
+use Rattle.std.proofs.lemmas.Bool.{cond_both}
 use Rattle.std.proofs.lemmas.Bool.Decides.{nat_tests}
 use Rattle.std.proofs.lemmas.List.Sums.{fold-append, sum_by-le-sum_by}
 use Rattle.std.specs.List.{AllByRecursion, fold}
-use Rattle.lard_law_view.specs.Prelude.{AreAllowed, Call, ClosesNone, Config, Dispatcher, EachMay, Event, Front, FrontState, HasRule, IsCallInRange, IsReached, Machine, MayBeMade, Out, Rec, Tally, after_call, after_calls, clocked, config_check, connections_at, dispatch_begun, front_gave, front_setting, front_step, is_home_of_node, loads_after, machine_start, machine_step, machine_told, room_of}
-use Rattle.lard_law_connections.proofs.LineCalls.{StepCalls, step-calls}
+use Rattle.lard_law_view.specs.Prelude.{AreAllowed, Call, ClosesNone, Config, Dispatcher, EachMay, Event, Front, FrontState, HasRule, IsCallInRange, IsReached, Machine, MayBeMade, Out, Rec, Tally, after_call, after_calls, clocked, config_check, connections_at, dispatch_begun, front_gave, front_setting, front_step, is_home_of_node, is_node_closed, loads_after, machine_start, machine_step, machine_told, node_closed_step, room_of}
+use Rattle.lard_law_connections.proofs.LineCalls.{IsNoClosing, StepCalls, step-calls}
 use Rattle.lard_law_connections.proofs.LineCharging.{IsBelow, below-same, falls-below, rises-below}
 use Rattle.lard_law_connections.proofs.LineRuns.{step-ordered-so}
-use Rattle.lard_law_connections.specs.LineLaws.{ConnectionsStayFew, HasFewConnections, IsNearTheThresholds, IsNotBusy, IsWithinTheRoom, LoadsStayNearTheThresholds, LoadsStayWithinTheRoom, NeverAllBusy, connections_told, greatest_threshold}
-use Rattle.lard_law_connections.proofs.PolicyAsides.{EachFrom, May, from-append, from-may, may-from}
+use Rattle.lard_law_connections.proofs.LineSteps.{IsRising}
+use Rattle.lard_law_connections.specs.LineLaws.{ConnectionsStayFew, HasFewConnections, IsNearTheThresholds, IsNotBusy, IsWithinTheRoom, LoadsStayNearTheThresholds, LoadsStayWithinTheRoom, NeverAllBusy, NoneIsClosed, connections_told, greatest_threshold}
+use Rattle.lard_law_connections.proofs.PolicyAsides.{EachFrom, May, may-from}
 use Rattle.lard_law_connections.proofs.Calm.{first_rows, last_rows, told-journal}
 use Rattle.lard_law_connections.proofs.PolicyCounted.{books-are-told, loads-are-charges, reached-counted, standings-are-told}
 use Rattle.lard_law_connections.proofs.Forms.{Clocks, FrontStays, FrontStep, front-form}
@@ -20,7 +22,9 @@ use Rattle.lard_law_view.proofs.Runs.{passes-more}
 use Rattle.lard_dispatch.proofs.Homes.{few-are-high}
 use Rattle.lard_dispatch.proofs.Shares.{within-the-room}
 use Rattle.lard_dispatch.proofs.Thresholds.{few-at-homes, near-the-thresholds}
-use Rattle.lard_history.proofs.Each.{Each, each_append}
+use Rattle.lard_history.proofs.Each.{Each, Each-weaker, each_append}
+use Rattle.lard_history.proofs.Seeing.{same_number}
+use Rattle.lard_journal.specs.declared.rec.Rec.TheVariants as rec
 use Rattle.lard_loads.specs.Tally as tally
 use Rattle.lard_law_view.proofs.OwnRecords.{behind}
 
@@ -62,22 +66,69 @@ pub record HasCalls (config : Config) (m : Machine) : Type 0 where
   pub calls : List Call
   pub is : m.front.dispatch ≡ after_calls (dispatch_begun config) calls
   pub may : MayBeMade config calls
-  pub closes : AllByRecursion ClosesNone calls
+  pub closes : NoneIsClosed m.journal → AllByRecursion ClosesNone calls
+
+-- ---- while no node is closed
+
+stays-closed : (n : ℕ) (rs : List Rec) → fold (node_closed_step n) true rs ≡ true
+stays-closed n [] = refl
+stays-closed n (rec.Closed m ∷ rs) = cond_both (nat_eq m n) true true (λ b. fold (node_closed_step n) b rs ≡ true) (λ t. stays-closed n rs) (λ t. stays-closed n rs)
+stays-closed n (r ∷ rs) = stays-closed n rs
+
+-- none was closed before
+before-closed : (J rs : List Rec) → NoneIsClosed (J ++ rs) → NoneIsClosed J
+before-closed J rs none n = go (is_node_closed J n) refl where
+  go : (b : Bool) → is_node_closed J n ≡ b → b ≡ false
+  go true e = sym (stays-closed n rs) ∙ ap (λ b. fold (node_closed_step n) b rs) (sym e) ∙ sym (fold-append (node_closed_step n) false J rs) ∙ none n
+  go false e = refl
+
+-- and none is by such records
+still-none : (rs : List Rec) → Each IsNoClosing rs → (n : ℕ) → fold (node_closed_step n) false rs ≡ false
+still-none [] e n = refl
+still-none (rec.Closed m ∷ rs) e n = absurd e.0
+still-none (r ∷ rs) e n = still-none rs e.1 n
+
+behind-none : (J rs : List Rec) → NoneIsClosed J → Each IsNoClosing rs → NoneIsClosed (J ++ rs)
+behind-none J rs none e n = fold-append (node_closed_step n) false J rs ∙ ap (λ b. fold (node_closed_step n) b rs) (none n) ∙ still-none rs e n
+
+none-closing : (rs : List Rec) → ((n : ℕ) → fold (node_closed_step n) false rs ≡ false) → Each IsNoClosing rs
+none-closing [] none = tt
+none-closing (rec.Closed m ∷ rs) none =
+    let closed : fold (node_closed_step m) false (rec.Closed m ∷ rs) ≡ true = ap (λ b. fold (node_closed_step m) (cond b true false) rs) (same_number m) ∙ stays-closed m rs in
+    let no : true ≡ false = sym closed ∙ none m in absurd cc
+none-closing (r ∷ rs) none = (tt, none-closing rs none)
+
+-- where none is closed at the end, none is in between
+behind-closing : (J rs : List Rec) → NoneIsClosed (J ++ rs) → Each IsNoClosing rs
+behind-closing J rs none = none-closing rs (λ n. ap (λ b. fold (node_closed_step n) b rs) (sym (before-closed J rs none n)) ∙ sym (fold-append (node_closed_step n) false J rs) ∙ none n)
+
+rising-closing : (r : Rec) → IsRising r → IsNoClosing r
+rising-closing (rec.Closed n) h = h
+rising-closing _ h = tt
 
 module _ (config : Config) (files : List (List ℕ × List ℕ)) (checked : config_check config ≡ Ok tt) where
   one-more : (m n : Machine) (e : Event) → IsOn config files m → HasRule e → machine_step m e ≡ Ok n → IsReached config files n
   one-more m n e on rule is = (on.reached.0 ++ e ∷ [], passes-more on.reached.0 (machine_start config files) m n e on.reached.1 rule is)
 
-  same-calls : (m n : Machine) → n.front ≡ m.front → HasCalls config m → HasCalls config n
-  same-calls m n e h = record { calls = h.calls; is = ap (λ (f : FrontState). f.dispatch) e ∙ h.is; may = h.may; closes = h.closes }
+  same-calls : (m n : Machine) (rs : List Rec) → n.journal ≡ m.journal ++ rs → n.front ≡ m.front → HasCalls config m → HasCalls config n
+  same-calls m n rs adds e h = record {
+    calls = h.calls;
+    is = ap (λ (f : FrontState). f.dispatch) e ∙ h.is;
+    may = h.may;
+    closes = λ none. h.closes (before-closed m.journal rs (subst NoneIsClosed adds none));
+  }
+
+  -- what is so of each record behind a journal is so of the notes
+  notes-are : (P : Rec → Type 0) (m : Machine) (e : Event) (t : FrontState) (o : Out) → Each P (first_rows (record m { front = t }) e ++ o.notes ++ last_rows (record m { front = t }) Front o) → Each P o.notes
+  notes-are P m e t o all =
+      let w : Machine = record m { front = t } in
+      each-behind P (first_rows w e) o.notes (each-before P (first_rows w e ++ o.notes) (last_rows w Front o) all)
 
   -- the notes are of numbers of connections, as all records are
   notes-numbered : (m : Machine) (e : Event) (t : FrontState) (o : Out) → Each IsNumbered (front_gave m e (behind e) (t, o)).journal → Each IsNumbered o.notes
   notes-numbered m e t o numbered =
       let w : Machine = record m { front = t } in
-      each-behind IsNumbered (first_rows w e) o.notes
-      (each-before IsNumbered (first_rows w e ++ o.notes) (last_rows w Front o)
-      (each-behind IsNumbered m.journal (first_rows w e ++ o.notes ++ last_rows w Front o) (subst (Each IsNumbered) (told-journal w e Front o) numbered)))
+      notes-are IsNumbered m e t o (each-behind IsNumbered m.journal (first_rows w e ++ o.notes ++ last_rows w Front o) (subst (Each IsNumbered) (told-journal w e Front o) numbered))
 
   moved-calls : (m : Machine) (e : Event) (t : FrontState) (o : Out) → StepCalls m.front.dispatch (t, o) → Each IsNumbered o.notes → HasCalls config m → HasCalls config (front_gave m e (behind e) (t, o))
   unfolding machine_told
@@ -87,9 +138,13 @@ module _ (config : Config) (files : List (List ℕ × List ℕ)) (checked : conf
     may = record {
       usable = checked;
       allowed = allowed-append (dispatch_begun config) h.calls s.calls h.may.allowed (subst (λ (d : Dispatcher). AreAllowed d s.calls) h.is s.allowed);
-      in_range = all-append IsCallInRange h.calls s.calls h.may.in_range (s.fit.in_range numbered);
+      in_range = all-append IsCallInRange h.calls s.calls h.may.in_range (s.in_range numbered);
     };
-    closes = all-append ClosesNone h.calls s.calls h.closes s.fit.closes;
+    closes = λ none.
+        let w : Machine = record m { front = t } in
+        let rows : List Rec = first_rows w e ++ o.notes ++ last_rows w Front o in
+        let after : NoneIsClosed (m.journal ++ rows) = subst NoneIsClosed (told-journal w e Front o) none in
+        all-append ClosesNone h.calls s.calls (h.closes (before-closed m.journal rows after)) (s.closes (notes-are IsNoClosing m e t o (behind-closing m.journal rows after)));
   }
 
   clocked-front : (m : Machine) (ms : ℕ) → (clocked m ms).front ≡ m.front
@@ -98,17 +153,18 @@ module _ (config : Config) (files : List (List ℕ × List ℕ)) (checked : conf
 
   has-calls : (m : Machine) → IsReached config files m → HasCalls config m
   has-calls = carried-keep config files (HasCalls config)
-      (record { calls = []; is = refl; may = record { usable = checked; allowed = tt; in_range = tt }; closes = tt })
-      (λ k n e on h rule is. ⊎_elim
-      (λ (s : FrontStays k e n). same-calls k n s.front h)
+      (record { calls = []; is = refl; may = record { usable = checked; allowed = tt; in_range = tt }; closes = λ none. tt })
+      (λ k n e on h rule is.
+      let adds = step-ordered-so config files checked k n e on rule is in ⊎_elim
+      (λ (s : FrontStays k e n). same-calls k n adds.0 adds.1 s.front h)
       (⊎_elim
       (λ (s : FrontStep k e n).
       let given : FrontState × Out = front_step (front_setting k) k.front s.comes in
       let numbered : Each IsNumbered n.journal = reached-numbered config files n (one-more k n e on rule is) in
       subst (HasCalls config) (sym s.is)
-      (moved-calls k e given.0 given.1 (step-calls (front_setting k) k.front (reached-counted config files checked k on.reached).sound s.comes)
+      (moved-calls k e given.0 given.1 (step-calls (front_setting k) k.front (reached-counted config files checked k on.reached).sound s.comes s.may)
       (notes-numbered k e given.0 given.1 (subst (λ (x : Machine). Each IsNumbered x.journal) s.is numbered)) h))
-      (λ (c : Clocks k e n). same-calls k n (ap (λ (x : Machine). x.front) c.is ∙ clocked-front k c.ms) h))
+      (λ (c : Clocks k e n). same-calls k n adds.0 adds.1 (ap (λ (x : Machine). x.front) c.is ∙ clocked-front k c.ms) h))
       (front-form k n e is))
 
   -- ---- at every moment no node has more than in some state
@@ -116,20 +172,40 @@ module _ (config : Config) (files : List (List ℕ × List ℕ)) (checked : conf
   abbrev loads_in : Machine → Tally
   loads_in m = m.front.dispatch.books.loads
 
-  pub record HasNoMore (t : Tally) : Type 0 where
+  pub record HasNoMore (past : List Rec) : Type 0 where
     pub state : Machine
     pub reached : IsReached config files state
-    pub below : IsBelow t (loads_in state)
+    pub below : IsBelow (ledger config past).loads (loads_in state)
+    pub clear : NoneIsClosed past → NoneIsClosed state.journal
 
-  at-state : (m : Machine) → IsReached config files m → HasNoMore (ledger config m.journal).loads
-  at-state m r = record { state = m; reached = r; below = subst (λ (t : Tally). IsBelow t (loads_in m)) (books-are-told config files m checked r).0 (below-same (loads_in m)) }
+  at-state : (m : Machine) → IsReached config files m → HasNoMore m.journal
+  at-state m r = record { state = m; reached = r; clear = λ none. none; below = subst (λ (t : Tally). IsBelow t (loads_in m)) (books-are-told config files m checked r).0 (below-same (loads_in m)) }
 
   abbrev At : List Rec → Rec → Type 0
-  At past r = HasNoMore (ledger config past).loads
+  At past r = HasNoMore past
 
-  each-from : (t : Tally) (m : Machine) → IsReached config files m → loads_in m ≡ t → (l : Ledger) (rs : List Rec) → EachFrom (λ k r. IsBelow k.loads t) l rs → EachFrom (λ k r. HasNoMore k.loads) l rs
-  each-from t m r e l [] h = tt
-  each-from t m r e l (x ∷ rs) h = (record { state = m; reached = r; below = subst (λ (u : Tally). IsBelow l.loads u) (sym e) h.0 }, each-from t m r e (ledger_step l x) rs h.1)
+  module _ (t : Tally) (m : Machine) (reached : IsReached config files m) (same : loads_in m ≡ t) where
+    at-one : (past : List Rec) → IsBelow (ledger config past).loads t → (NoneIsClosed past → NoneIsClosed m.journal) → HasNoMore past
+    at-one past below clear = record { state = m; reached = reached; below = subst (λ (u : Tally). IsBelow (ledger config past).loads u) (sym same) below; clear = clear }
+
+    abbrev Below : Ledger → Rec → Type 0
+    Below k r = IsBelow k.loads t
+
+    then-below : (past : List Rec) (x : Rec) (rs : List Rec) → EachFrom Below (ledger_step (ledger config past) x) rs → EachFrom Below (ledger config (past ++ x ∷ [])) rs
+    then-below past x rs h = subst (λ (l : Ledger). EachFrom Below l rs) (sym (fold-append ledger_step (blank_ledger config) past (x ∷ []))) h
+
+    -- what falls comes behind the state before
+    each-falls : (past rs : List Rec) → (NoneIsClosed past → NoneIsClosed m.journal) → EachFrom Below (ledger config past) rs → EachMay At past rs
+    each-falls past [] clear h = tt
+    each-falls past (x ∷ rs) clear h = (at-one past h.0 clear, each-falls (past ++ x ∷ []) rs (λ none. clear (before-closed past (x ∷ []) none)) (then-below past x rs h.1))
+
+    -- and what rises comes before the state behind
+    each-rises : (past rs : List Rec) → m.journal ≡ past ++ rs → Each IsRising rs → EachFrom Below (ledger config past) rs → EachMay At past rs
+    each-rises past [] is rising h = tt
+    each-rises past (x ∷ rs) is rising h = (
+      at-one past h.0 (λ none. subst NoneIsClosed (sym is) (behind-none past (x ∷ rs) none (Each-weaker IsRising IsNoClosing rising-closing (x ∷ rs) rising))),
+      each-rises (past ++ x ∷ []) rs (is ∙ sym (append_assoc past (x ∷ []) rs)) rising.1 (then-below past x rs h.1),
+    )
 
   may-split : (l : Ledger) (xs ys : List Rec) → EachFrom (May config) l (xs ++ ys) → EachFrom (May config) (fold ledger_step l xs) ys
   may-split l [] ys e = e
@@ -153,8 +229,11 @@ module _ (config : Config) (files : List (List ℕ × List ℕ)) (checked : conf
       ∙ ap (λ (x : Ledger). x.loads) (ap (ledger config) (adds.1 ∙ ap (λ (zs : List Rec). m.journal ++ zs) o.split) ∙ fold-append ledger_step (blank_ledger config) m.journal (o.falls ++ o.rises) ∙ fold-append ledger_step l o.falls o.rises) in (
         rs,
         adds.1,
-        from-may config (λ k r. HasNoMore k.loads) m.journal rs (subst (EachFrom (λ k r. HasNoMore k.loads) l) (sym o.split)
-            (from-append (λ k r. HasNoMore k.loads) l o.falls o.rises (each-from l.loads m on.reached (books-are-told config files m checked on.reached).0 l o.falls down) (each-from (fold ledger_step u o.rises).loads k reached end u o.rises up.0))),
+        subst (EachMay At m.journal) (sym o.split) (each_append At m.journal o.falls o.rises
+            (each-falls l.loads m on.reached (books-are-told config files m checked on.reached).0 m.journal o.falls (λ none. none) down)
+            (each-rises (fold ledger_step u o.rises).loads k reached end (m.journal ++ o.falls) o.rises
+            (adds.1 ∙ ap (λ (zs : List Rec). m.journal ++ zs) o.split ∙ sym (append_assoc m.journal o.falls o.rises)) o.rising
+            (subst (λ (k : Ledger). EachFrom (λ l r. IsBelow l.loads (fold ledger_step u o.rises).loads) k o.rises) (sym (fold-append ledger_step (blank_ledger config) m.journal o.falls)) up.0))),
       )
 
   each-below : (m : Machine) → IsReached config files m → EachMay At [] m.journal
@@ -164,13 +243,13 @@ module _ (config : Config) (files : List (List ℕ × List ℕ)) (checked : conf
       subst (EachMay At []) (sym adds.1) (each_append At [] m.journal adds.0 h adds.2))
 
   -- before a record, or at the end
-  at-moment : (m : Machine) → IsReached config files m → (past later : List Rec) → m.journal ≡ past ++ later → HasNoMore (ledger config past).loads
-  at-moment m r past [] is = subst (λ (K : List Rec). HasNoMore (ledger config K).loads) (is ∙ append-nil past) (at-state m r)
+  at-moment : (m : Machine) → IsReached config files m → (past later : List Rec) → m.journal ≡ past ++ later → HasNoMore past
+  at-moment m r past [] is = subst HasNoMore (is ∙ append-nil past) (at-state m r)
   at-moment m r past (x ∷ rs) is = (may-behind At [] past (x ∷ rs) (subst (EachMay At []) is (each-below m r))).0
 
   -- what the journal counts, at that moment
   module _ (m : Machine) (r : IsReached config files m) (past later : List Rec) (is : m.journal ≡ past ++ later) where
-    most : HasNoMore (ledger config past).loads
+    most : HasNoMore past
     most = at-moment m r past later is
 
     calls : HasCalls config most.state
@@ -198,10 +277,10 @@ module _ (config : Config) (files : List (List ℕ × List ℕ)) (checked : conf
     room-so n = load-most n (840 * room_of config) (within-the-room config calls.calls calls.may n).1
 
     thresholds-so : IsNearTheThresholds config (ledger config past) past
-    thresholds-so n = load-most n (840 * (greatest_threshold config + 1)) (near-the-thresholds config calls.calls calls.may calls.closes (greatest_threshold config) (omega arith) (omega arith) (omega arith) n)
+    thresholds-so none n = load-most n (840 * (greatest_threshold config + 1)) (near-the-thresholds config calls.calls calls.may (calls.closes (most.clear none)) (greatest_threshold config) (omega arith) (omega arith) (omega arith) n)
 
     few-so : HasFewConnections config (ledger config past) past
-    few-so n = let few = few-at-homes config calls.calls calls.may calls.closes n in let less = connections-most n in omega (arith, few, less)
+    few-so none n = let few = few-at-homes config calls.calls calls.may (calls.closes (most.clear none)) n in let less = connections-most n in omega (arith, few, less)
 
     -- no node is high that is not in that state
     highs-less : count_by (λ n. nat_le config.high (connections_told past n)) (tally.numbers config.nodes) ≤ count_by (λ n. nat_le config.high (connections_at (loads_after config calls.calls) n)) (tally.numbers config.nodes)

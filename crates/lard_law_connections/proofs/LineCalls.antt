@@ -1,9 +1,10 @@
--- The calls of the dispatcher that a step of the front end makes: they may be made, close no node, and name connections where its notes
--- do.
-use Rattle.std.proofs.Common.{◌≡◌, ℕ, ◌≤◌, Bool, true, false, List, [], ◌∷◌, ◌++◌, length, Option, Some, None, Result, Ok, Err, arith, refl, sym, ap, ◌∙◌, subst}
+-- The calls of the dispatcher that a step of the front end makes: they may be made, close a node where its notes do, and name connections
+-- where its notes do.
+use Rattle.std.proofs.Common.{◌≡◌, ℕ, ◌≤◌, Bool, true, false, List, [], ◌∷◌, ◌++◌, length, Option, Some, None, Result, Ok, Err, arith, refl, sym, ap, ◌∙◌, subst, cond}
 use Rattle.std.specs.List.{AllByRecursion}
 use Rattle.lard_law_connections.proofs.PolicyNumbers.{IsNumbered}
-use Rattle.lard_law_view.specs.Prelude.{AreAllowed, Ask, Body, Call, ClosesNone, Did, Dispatcher, Ending, Final, FirstChoice, FrontDeed, FrontEnv, FrontIn, FrontPart, FrontRest, FrontSetting, FrontState, FrontTurn, IsCallInRange, IsFrontSound, IsOfTable, Later, LaterChoice, Message, MsgFault, Out, Rec, Said, SegFault, ToCluster, Turn, admits, admits_too, after_calls, ask_of, assigned_notes, assigns, decoded, decoded_message, dispatch_standing, ended_answer, ended_deed, front_admitted, front_asked, front_deed, front_ended, front_ends, front_env, front_fired, front_gets, front_part, front_rest, front_step, front_taken, front_timer, front_told, leaves_by, message_comes, next_epoch, over_note, put_back, serving_settled, spoken}
+use Rattle.lard_law_view.specs.Prelude.{AreAllowed, Ask, Body, Call, ClosesNone, Did, Dispatcher, Ending, Final, FirstChoice, FrontDeed, FrontEnv, FrontIn, FrontPart, FrontRest, FrontSetting, FrontState, FrontTurn, IsCallInRange, IsFrontSound, IsOfTable, Later, LaterChoice, MayDrain, Message, MsgFault, Out, Rec, Said, SegFault, ToCluster, Turn, admits, admits_too, after_calls, ask_of, assigned_notes, assigns, decoded, decoded_message, dispatch_standing, ended_answer, ended_deed, front_admitted, front_asked, front_deed, front_drains, front_ended, front_ends, front_env, front_fired, front_gets, front_part, front_rest, front_step, front_taken, front_timer, front_told, is_open, leaves_by, message_comes, next_epoch, nothing_done, over_note, put_back, serving_settled, sets_closed, spoken, tally_closed}
+use Rattle.lard_dispatch.specs.Laws.Call as call
 use Rattle.lard_rules.specs.Front.{Drops, Says, Does}
 use Rattle.lard_rules.proofs.FrontDeeds.{IsOf, asked-keeps, gets-keeps, many-choices, taken-keeps, timer-keeps}
 use Rattle.lard_rules.proofs.FrontEnded.{Comes, end-comes, may-end}
@@ -95,24 +96,30 @@ module _ (env : FrontEnv) (p : FrontPart) where
 
 -- ---- a step
 
+-- it closes no node
+abbrev pub IsNoClosing : Rec → Type 0
+IsNoClosing (rec.Closed n) = ⊥
+IsNoClosing _ = Unit {0}
+
 -- The dispatcher is called so.
 pub record StepCalls (d : Dispatcher) (x : FrontState × Out) : Type 0 where
   pub calls : List Call
   pub is : x.0.dispatch ≡ after_calls d calls
   pub allowed : AreAllowed d calls
-  pub fit : AreFit x.1.notes calls
+  pub closes : Each IsNoClosing x.1.notes → AllByRecursion ClosesNone calls
+  pub in_range : Each IsNumbered x.1.notes → AllByRecursion IsCallInRange calls
 
 module _ (k : FrontSetting) (s : FrontState) (sound : IsFrontSound s) where
   abbrev Calls : FrontState × Out → Type 0
   Calls x = StepCalls s.dispatch x
 
   still-calls : (t : Out) → Calls (s, t)
-  still-calls t = record { calls = []; is = refl; allowed = tt; fit = no-calls t.notes }
+  still-calls t = record { calls = []; is = refl; allowed = tt; closes = λ e. tt; in_range = λ e. tt }
 
   deed-calls : (c : ℕ) (deed : FrontDeed) → DeedKeeps s.dispatch c k.now deed → DeedFits deed → Calls (front_deed s c deed)
   deed-calls c Drops keeps fits = still-calls _
   deed-calls c (Says t) keeps fits = still-calls _
-  deed-calls c (Does x) keeps fits = record { calls = x.calls; is = refl; allowed = keeps.allowed; fit = fits }
+  deed-calls c (Does x) keeps fits = record { calls = x.calls; is = refl; allowed = keeps.allowed; closes = λ e. fits.closes; in_range = fits.in_range }
 
   env-of : (c iss : ℕ) → IsOf (front_env k s c iss) s.dispatch
   env-of c iss = record { first = λ path. refl; later = λ ask. refl }
@@ -121,19 +128,20 @@ module _ (k : FrontSetting) (s : FrontState) (sound : IsFrontSound s) where
   ended-calls : (c from epoch : ℕ) (last : Final) → Calls (ended_deed k s c (front_ended (front_env k s c 0) (front_part s c) from epoch last))
   ended-calls c from epoch last = go (front_ended (front_env k s c 0) (front_part s c) from epoch last) (end-comes (front_env k s c 0) (front_part s c) from epoch last (dispatch_standing s.dispatch c) (sound.each c)) where
     too : (x : Did) (d : ℕ) (o : Option (FrontPart × FrontTurn)) → AreAllowed s.dispatch x.calls → AreFit x.turn.notes x.calls → Calls (admits_too s (put_back s c x) c x d o)
-    too x d None allowed fit = record { calls = x.calls; is = refl; allowed = allowed; fit = fit }
+    too x d None allowed fit = record { calls = x.calls; is = refl; allowed = allowed; closes = λ e. fit.closes; in_range = fit.in_range }
     too x d (Some y) allowed fit = record {
       calls = x.calls;
       is = refl;
       allowed = allowed;
-      fit = record { closes = fit.closes; in_range = λ e. fit.in_range (before x.turn.notes y.1.notes e) };
+      closes = λ e. fit.closes;
+      in_range = λ e. fit.in_range (before x.turn.notes y.1.notes e);
     } where
       before : (xs ys : List Rec) → Each IsNumbered (xs ++ ys) → Each IsNumbered xs
       before [] ys e = tt
       before (r ∷ xs) ys e = (e.0, before xs ys e.1)
 
     next : (x : Did) (o : Option (ℕ × FirstChoice)) → AreAllowed s.dispatch x.calls → AreFit x.turn.notes x.calls → Calls (admits k s (put_back s c x) c x o)
-    next x None allowed fit = record { calls = x.calls; is = refl; allowed = allowed; fit = fit }
+    next x None allowed fit = record { calls = x.calls; is = refl; allowed = allowed; closes = λ e. fit.closes; in_range = fit.in_range }
     next x (Some n) allowed fit = too x n.0 (front_admitted (front_env k (put_back s c x) n.0 0) (front_part (put_back s c x) n.0) n.1) allowed fit
 
     go : (deed : FrontDeed) → Comes (front_env k s c 0) (front_part s c) from epoch last (dispatch_standing s.dispatch c) deed → Calls (ended_deed k s c deed)
@@ -155,8 +163,25 @@ module _ (k : FrontSetting) (s : FrontState) (sound : IsFrontSound s) where
   message-calls from (Err e) told = still-calls _
   message-calls from (Ok m) told = told-calls from m.c m.epoch.0 m.body told
 
-  pub step-calls : (i : FrontIn) → Calls (front_step k s i)
-  step-calls (input.Segment c iss bytes) = deed-calls c (front_gets (front_env k s c iss.0) (front_part s c) bytes (decoded bytes c ToCluster))
+  -- a node that is open is closed
+  drain-calls : (n : ℕ) → MayDrain s (input.Drain n) → Calls (front_drains s n)
+  drain-calls n other = go (is_open s.dispatch.books.loads n) refl where
+    abbrev after : Dispatcher
+    after = record s.dispatch { books = record s.dispatch.books { loads = tally_closed s.dispatch.books.loads n; sets = sets_closed s.dispatch.books.sets n } }
+
+    go : (b : Bool) → is_open s.dispatch.books.loads n ≡ b → Calls (record s { dispatch = cond b after s.dispatch }, record nothing_done { notes = cond b (rec.Closed n ∷ []) [] })
+    go true opened = record {
+      calls = call.Close n ∷ [];
+      is = sym (ap (λ b. cond b after s.dispatch) opened);
+      allowed = (other, tt);
+      closes = λ e. absurd e.0;
+      in_range = λ e. (tt, tt);
+    }
+    go false closed = still-calls nothing_done
+
+  pub step-calls : (i : FrontIn) → MayDrain s i → Calls (front_step k s i)
+  step-calls (input.Segment c iss bytes) may = deed-calls c (front_gets (front_env k s c iss.0) (front_part s c) bytes (decoded bytes c ToCluster))
       (gets-keeps s.dispatch (front_env k s c iss.0) (env-of c iss.0) (front_part s c) (sound.tags c) bytes (decoded bytes c ToCluster) (sound.each c)) (gets-fit (front_env k s c iss.0) (front_part s c) bytes (decoded bytes c ToCluster))
-  step-calls (input.Message from bytes) = message-calls from (decoded_message bytes) (message-told bytes)
-  step-calls (input.Timer c) = deed-calls c (front_timer (front_env k s c 0) (front_part s c)) (timer-keeps s.dispatch (front_env k s c 0) (env-of c 0) (front_part s c) (sound.tags c) (sound.each c)) (timer-fits (front_env k s c 0) (front_part s c))
+  step-calls (input.Message from bytes) may = message-calls from (decoded_message bytes) (message-told bytes)
+  step-calls (input.Drain n) may = drain-calls n may
+  step-calls (input.Timer c) may = deed-calls c (front_timer (front_env k s c 0) (front_part s c)) (timer-keeps s.dispatch (front_env k s c 0) (env-of c 0) (front_part s c) (sound.tags c) (sound.each c)) (timer-fits (front_env k s c 0) (front_part s c))

@@ -87,6 +87,7 @@ one-falls l (rec.Released c) f number = released-falls l.loads c number
 one-falls l (rec.BatchOver c) f number = ended-falls l.loads c number
 one-falls l (rec.AssignedFirst c r path k add remove) f number = absurd f
 one-falls l (rec.AssignedLater c r path k add size queue) f number = absurd f
+one-falls l (rec.Closed n) f number = let same = below-same l.loads in record { loads = same.loads; homes = same.homes }
 one-falls l (rec.Clock time) f number = below-same l.loads
 one-falls l (rec.Admitted c) f number = below-same l.loads
 one-falls l _ f number = below-same l.loads
@@ -96,6 +97,7 @@ one-rises cfg l (rec.AssignedFirst c r path k add remove) f number may = connect
 one-rises cfg l (rec.AssignedLater c r path k add size queue) f number may = shared-rises l.loads c k size number
 one-rises cfg l (rec.Released c) f number may = absurd f
 one-rises cfg l (rec.BatchOver c) f number may = absurd f
+one-rises cfg l (rec.Closed n) f number may = absurd f
 one-rises cfg l (rec.Clock time) f number may = below-same l.loads
 one-rises cfg l (rec.Admitted c) f number may = below-same l.loads
 one-rises cfg l _ f number may = below-same l.loads

@@ -9,7 +9,7 @@ use Rattle.lard_law_connections.proofs.LineHolding.{IsRead}
 use Rattle.lard_law_connections.proofs.LineLaw.{IsLined}
 use Rattle.lard_law_connections.proofs.LineNotes.{Alone, Begins, Ends, Enters, Goes, IsLater, Noted, Reads, Shares, Was, Waits}
 use Rattle.lard_law_connections.proofs.LineStands.{stand_at, stand_step, unknown}
-use Rattle.lard_law_connections.proofs.LineSteps.{IsNoEntry, IsQuiet, IsRising, allows-quiet, nobody-quiet, note-quiet, on-quiet, read-quiet, rows-same}
+use Rattle.lard_law_connections.proofs.LineSteps.{IsNoEntry, IsQuiet, IsRising, allows-quiet, note-quiet, on-quiet, read-quiet, rows-same}
 use Rattle.lard_law_connections.proofs.LineTelling.{stands-told}
 use Rattle.lard_law_connections.proofs.LineTurns.{IsEntry, IsNoted, Notes, was_at}
 use Rattle.lard_law_connections.specs.LineLaws.{AdmitsBehind, AdmitsHead, MayPass}
@@ -92,6 +92,11 @@ quiet-plain r q = (q.3, go r q.2) where
   go : (r : Rec) → IsRising r → IsNoRelease r
   go (rec.Released c) h = absurd h
   go _ h = tt
+
+nobody-plain : (place : Place) (r : Rec) → NamesNobody place r → IsPlain r
+nobody-plain Front (rec.Closed n) h = (tt, tt)
+nobody-plain (Node n) (rec.Hit k path) h = (tt, tt)
+nobody-plain _ _ h = absurd h
 
 read-plain : (r : Rec) → IsRead r → IsPlain r
 read-plain r h = quiet-plain r (read-quiet r h)
@@ -445,7 +450,7 @@ module _ (m : Machine) (view : IsViewed m) (lined : (q : ℕ) → IsLined (conn 
     two = λ w e a b z rows c d heads ns p r act does too. told-adds w e Front (both_out a b z rows) (two-act m w e a b z rows c d heads ns p r act)
         (both-notes (w.events + 1) e c d heads a b z ns p r act.apart (act.begins.others (w.events + 1) d act.apart) act.said.notes act.said_rest.notes act.reads_on act.notes does too);
     each = λ w e place notes xs act made. told-adds w e place (each_out notes xs) (each-act m w e place notes xs act)
-        (λ lets. quiet-pass (behind_first (w.events + 1) e) notes (Each-weaker (NamesNobody place) IsQuiet (nobody-quiet place) notes act.nobody));
+        (λ lets. plain-pass (behind_first (w.events + 1) e) notes (Each-weaker (NamesNobody place) IsPlain (nobody-plain place) notes act.nobody));
     nobody = λ k l at there. passed-adds m (event.Deliver k) (rec.Got k ∷ []) refl (((λ i. refl), tt, tt, tt), tt);
     loses = λ k l at there. passed-adds (record m { net = lose_at (k - 1) m.net }) (event.Lose k) (rec.Lost k ∷ []) refl (((λ i. refl), tt, tt, tt), tt);
     clocks = λ ms. passed-adds (record m { now = m.now + ms }) (event.Clock ms) (rec.Clock (record { 0 = m.now + ms }) ∷ []) refl (((λ i. refl), tt, tt, tt), tt);

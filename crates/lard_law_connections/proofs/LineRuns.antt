@@ -21,6 +21,7 @@ use Rattle.lard_law_connections.proofs.PlacesTurns.{IsPlaced}
 use Rattle.lard_law_connections.proofs.PolicyCounted.{IsCounted, books-are-told, reached-counted, step-ordered}
 use Rattle.lard_law_connections.proofs.PolicyHomes.{stands-so}
 use Rattle.lard_law_connections.proofs.PolicyIns.{count}
+use Rattle.lard_law_connections.proofs.PolicyStanding.{equal-turned}
 use Rattle.lard_law_connections.proofs.PolicyWaiting.{who, within-more}
 use Rattle.lard_law_connections.specs.PolicyLaws.{AdmitsFirst, PassesOn}
 use Rattle.lard_counts.specs.Ledger.{is_in_ledger, ledger}
@@ -31,7 +32,7 @@ use Rattle.lard_law_view.proofs.InSteps.{carried-ends, carried-records}
 use Rattle.lard_handoff_front.specs.declared.row.FrontConn.TheVariants as stage
 use Rattle.lard_history.proofs.Each.{Each, Each-weaker}
 use Rattle.lard_history.proofs.Lifting.{tale-own}
-use Rattle.lard_history.proofs.Seeing.{by_number, other_number, same_number, has-each}
+use Rattle.lard_history.proofs.Seeing.{has-each}
 use Rattle.lard_history.proofs.Tales.{epoch-tale, owner-tale}
 use Rattle.lard_history.proofs.Stepping.{AreLawful, cancel, one-more}
 use Rattle.lard_journal.specs.declared.rec.Rec.TheVariants as rec

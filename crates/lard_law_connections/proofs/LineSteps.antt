@@ -24,10 +24,11 @@ IsFalling (rec.AssignedFirst c r path n add remove) = ⊥
 IsFalling (rec.AssignedLater c r path n add size queue) = ⊥
 IsFalling _ = Unit {0}
 
--- it takes from no load
+-- it takes from no load, and closes no node
 abbrev pub IsRising : Rec → Type 0
 IsRising (rec.Released c) = ⊥
 IsRising (rec.BatchOver c) = ⊥
+IsRising (rec.Closed n) = ⊥
 IsRising _ = Unit {0}
 
 -- it admits nobody
@@ -73,11 +74,13 @@ allows-quiet = record {
   cleared = λ place c kind. ((λ inside. refl), tt, tt, tt);
 }
 
--- what names nobody is quiet, and so is what is read on behind the head of the line
-pub nobody-quiet : (place : Place) (r : Rec) → NamesNobody place r → IsQuiet r
-nobody-quiet (Node n) (rec.Hit k path) h = ((λ inside. refl), tt, tt, tt)
-nobody-quiet _ _ h = absurd h
+-- what names nobody adds to no load, and nothing is due behind it
+pub nobody-falls : (place : Place) (r : Rec) → NamesNobody place r → ((inside : ℕ → Bool) → due_behind inside r ≡ Nothing) × IsFalling r
+nobody-falls Front (rec.Closed n) h = ((λ inside. refl), tt)
+nobody-falls (Node n) (rec.Hit k path) h = ((λ inside. refl), tt)
+nobody-falls _ _ h = absurd h
 
+-- what is read on behind the head of the line is quiet
 pub on-quiet : (r : Rec) → ReadsOn r → IsQuiet r
 on-quiet (rec.Served place c r code size via) h = ((λ inside. refl), tt, tt, tt)
 on-quiet (rec.Reset place c total) h = ((λ inside. refl), tt, tt, tt)
@@ -338,6 +341,17 @@ module _ (m : Machine) (lined : (q : ℕ) → IsLined (conn m q)) (inside : ℕ 
       round-order inside d a.notes b.notes z.notes (notes-order Front c heads ns (with_rest a z) p noted seen does) (Each-weaker ReadsOn IsQuiet on-quiet z.notes on)
       (own-enters d (move_of Front [] b.notes b r) (then (lined d)) refl refl)
 
+  -- what names nobody
+  nobody-order : (place : Place) (rs : List Rec) → Each (NamesNobody place) rs → IsInOrder inside rs
+  nobody-order place rs e = record {
+    released = none-due inside rs (Each-weaker (NamesNobody place) (λ r. due_behind inside r ≡ Nothing) (λ r h. (nobody-falls place r h).0 inside) rs e);
+    falls = rs;
+    rises = [];
+    split = sym (append-nil rs);
+    falling = Each-weaker (NamesNobody place) IsFalling (λ r h. (nobody-falls place r h).1) rs e;
+    rising = tt;
+  }
+
   shapes-add : Shapes m Notes (λ e n. Adds n)
   unfolding clocked
   shapes-add = record {
@@ -345,7 +359,7 @@ module _ (m : Machine) (lined : (q : ℕ) → IsLined (conn m q)) (inside : ℕ 
     two = λ w e a b z rows c d heads ns p r act does too. told-adds w e Front (both_out a b z rows) (two-act m w e a b z rows c d heads ns p r act)
         (both-order c d heads a b z ns p r (Each-append (NotedAt Front c) a.notes z.notes act.said.notes act.said_rest.notes) act.reads_on act.notes does too);
     each = λ w e place notes xs act made. told-adds w e place (each_out notes xs) (each-act m w e place notes xs act)
-        (quiet-order inside notes (Each-weaker (NamesNobody place) IsQuiet (nobody-quiet place) notes act.nobody));
+        (nobody-order place notes act.nobody);
     nobody = λ k l at there. passed-adds m (event.Deliver k) (rec.Got k ∷ []) refl (((λ i. refl), tt, tt, tt), tt);
     loses = λ k l at there. passed-adds (record m { net = lose_at (k - 1) m.net }) (event.Lose k) (rec.Lost k ∷ []) refl (((λ i. refl), tt, tt, tt), tt);
     clocks = λ ms. passed-adds (record m { now = m.now + ms }) (event.Clock ms) (rec.Clock (record { 0 = m.now + ms }) ∷ []) refl (((λ i. refl), tt, tt, tt), tt);

@@ -4,7 +4,7 @@ use Rattle.std.proofs.lemmas.Bool.{cond_both, ltb-false}
 use Rattle.std.proofs.lemmas.List.Sums.{fold-append}
 use Rattle.std.specs.FinMap as map
 use Rattle.std.specs.List.{filter, fold}
-use Rattle.lard_law_view.specs.Prelude.{Ask, Books, Config, Epoch, Front, LaterChoice, Millis, Rec, Standing, Tally, Waiting, admitted, admitted_with, all_choices, all_shared, assigned_notes, batch_ended, batch_ended_with, batch_over, choice_at, home, home_of, later_choice_at, open_shares, over_note, put_or, released_from, room_of, shared, shared_with, shares_of, sharing}
+use Rattle.lard_law_view.specs.Prelude.{Ask, Books, Config, Epoch, Front, LaterChoice, Millis, Rec, Standing, Tally, Waiting, admitted, admitted_with, all_choices, all_shared, assigned_notes, batch_ended, batch_ended_with, batch_over, choice_at, has_other_open, home, home_of, is_open, later_choice_at, open_shares, over_note, put_or, released_from, room_of, sets_closed, shared, shared_with, shares_of, sharing, tally_closed}
 use Rattle.lard_law_connections.proofs.PolicyAsides.{EachAfter, EachFrom, IsAside, May, after-append, asides-after, asides-may, asides-paired, asides-same, from-append, paired-append}
 use Rattle.lard_law_connections.proofs.PolicyIns.{AreIn, in-less, in-more, in-not, in-same, in-there}
 use Rattle.lard_law_connections.specs.PolicyLaws.{ArePaired, IsBehind}

@@ -1,16 +1,16 @@
 -- A step of the front end: its records go along with its dispatcher's books.
-use Rattle.std.proofs.Common.{◌≡◌, ℕ, ◌+◌, ◌≤◌, ◌<◌, ◌==◌, ◌||◌, nat_lt, Bool, true, false, List, [], ◌∷◌, ◌++◌, is_some, Option, Some, None, Result, Ok, Err, refl, sym, ap, subst, ◌∙◌, arith, inl, inr}
+use Rattle.std.proofs.Common.{◌≡◌, ℕ, ◌+◌, ◌≤◌, ◌<◌, ◌==◌, ◌||◌, nat_lt, Bool, true, false, List, [], ◌∷◌, ◌++◌, is_some, Option, Some, None, Result, Ok, Err, refl, sym, ap, subst, ◌∙◌, arith, inl, inr, cond}
 use Rattle.std.proofs.lemmas.Bool.{cond_both}
 use Rattle.std.specs.FinMap as map
 use Rattle.std.specs.FinMap.{FinMap}
 use Rattle.std.specs.List.{flat_map}
 use Rattle.std.specs.Ordering.{nat_cmp}
-use Rattle.lard_law_view.specs.Prelude.{AreApart, Body, Books, Did, DispatchStanding, Dispatcher, Final, FirstChoice, FrontDeed, FrontEnv, FrontIn, FrontPart, FrontRow, FrontSetting, FrontState, FrontTurn, IsFrontSound, IsOfTable, Message, MsgFault, OnEnded, Out, Rec, TimerKind, ToCluster, Waiting, Waits, admits, admits_too, admitted, ask_of, decoded, decoded_message, dispatch_standing, end_answer, ended_deed, front_armed, front_asked, front_deed, front_did, front_ended, front_ended_by, front_ends, front_env, front_gets, front_out_of, front_part, front_put, front_step, front_taken, front_timer, front_timers, front_told, handed_off, in_order, kind_change, line_waits, message_comes, next_admission, next_admitted, next_epoch, nothing_done, put_back, released_from, room_of, serving, timer_kinds}
+use Rattle.lard_law_view.specs.Prelude.{AreApart, Body, Books, Did, DispatchStanding, Dispatcher, Final, FirstChoice, FrontDeed, FrontEnv, FrontIn, FrontPart, FrontRow, FrontSetting, FrontState, FrontTurn, IsFrontSound, IsOfTable, MayDrain, Message, MsgFault, OnEnded, Out, Rec, TimerKind, ToCluster, Waiting, Waits, admits, admits_too, admitted, ask_of, decoded, decoded_message, dispatch_standing, end_answer, ended_deed, front_armed, front_asked, front_deed, front_did, front_drains, front_ended, front_ended_by, front_ends, front_env, front_gets, front_out_of, front_part, front_put, front_step, front_taken, front_timer, front_timers, front_told, handed_off, in_order, is_open, kind_change, line_waits, message_comes, next_admission, next_admitted, next_epoch, nothing_done, put_back, released_from, room_of, serving, sets_closed, tally_closed, timer_kinds}
 use Rattle.lard_base.specs.declared.place.Place.TheVariants as place
 use Rattle.lard_law_connections.proofs.PolicyAsides.{IsAside}
 use Rattle.lard_law_connections.proofs.PolicyFronts.{DeedTells, IsMute, Tells, asked-tells, gets-tells, taken-tells, timer-tells}
 use Rattle.lard_law_connections.proofs.PolicyIns.{AreIn}
-use Rattle.lard_law_connections.proofs.PolicyLeading.{Leads, admit-leads, aside-leads, both-lead, release-leads}
+use Rattle.lard_law_connections.proofs.PolicyLeading.{Leads, admit-leads, aside-leads, both-lead, close-leads, release-leads}
 use Rattle.lard_law_connections.proofs.PolicyLines.{AreLined, lined-absent, target_of, targets}
 use Rattle.lard_law_connections.proofs.PolicyMessages.{IsTold, message-told}
 use Rattle.lard_law_connections.proofs.PolicyOrder.{IsOrdered, alone-ordered, none-ordered}
