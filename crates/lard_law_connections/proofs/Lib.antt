@@ -1,4 +1,5 @@
 pub mod Calm
+pub mod Closings
 pub mod Forms
 pub mod Happened
 pub mod PolicyAsides

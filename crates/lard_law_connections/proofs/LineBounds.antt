@@ -5,7 +5,7 @@ use Rattle.std.proofs.lemmas.Bool.Decides.{nat_tests}
 use Rattle.std.proofs.lemmas.List.Sums.{fold-append, sum_by-le-sum_by}
 use Rattle.std.specs.List.{AllByRecursion, fold}
 use Rattle.lard_law_view.specs.Prelude.{AreAllowed, Call, ClosesNone, Config, Dispatcher, EachMay, Event, Front, FrontState, HasRule, IsCallInRange, IsReached, Machine, MayBeMade, Out, Rec, Tally, after_call, after_calls, clocked, config_check, connections_at, dispatch_begun, front_gave, front_setting, front_step, is_home_of_node, is_node_closed, loads_after, machine_start, machine_step, machine_told, node_closed_step, room_of}
-use Rattle.lard_law_connections.proofs.LineCalls.{IsNoClosing, StepCalls, step-calls}
+use Rattle.lard_law_connections.proofs.LineCalls.{StepCalls, step-calls}
 use Rattle.lard_law_connections.proofs.LineCharging.{IsBelow, below-same, falls-below, rises-below}
 use Rattle.lard_law_connections.proofs.LineRuns.{step-ordered-so}
 use Rattle.lard_law_connections.proofs.LineSteps.{IsRising}
@@ -26,7 +26,7 @@ use Rattle.lard_history.proofs.Each.{Each, Each-weaker, each_append}
 use Rattle.lard_history.proofs.Seeing.{same_number}
 use Rattle.lard_journal.specs.declared.rec.Rec.TheVariants as rec
 use Rattle.lard_loads.specs.Tally as tally
-use Rattle.lard_law_view.proofs.OwnRecords.{behind}
+use Rattle.lard_law_view.proofs.OwnRecords.{IsNoClosing, behind}
 
 -- ---- calls behind calls
 

@@ -17,6 +17,7 @@ use Rattle.lard_rules.specs.declared.front.FrontIn.TheVariants as input
 use Rattle.lard_rules.specs.declared.places.Ending.TheVariants as ending
 use Rattle.lard_rules.proofs.FrontCases.{KeptBySegment, begun_service, heard_service, waiting_service, segment-keeps}
 use Rattle.lard_rules.proofs.FrontCases as cases
+use Rattle.lard_law_view.proofs.OwnRecords.{IsNoClosing}
 
 -- ---- a deed
 
@@ -95,11 +96,6 @@ module _ (env : FrontEnv) (p : FrontPart) where
     new rest = record { closes = (tt, tt); in_range = λ e. ((assigns-numbered ask rest.assigned paths (env.later ask).choices (env.later ask).over some many e, within), tt) }
 
 -- ---- a step
-
--- it closes no node
-abbrev pub IsNoClosing : Rec → Type 0
-IsNoClosing (rec.Closed n) = ⊥
-IsNoClosing _ = Unit {0}
 
 -- The dispatcher is called so.
 pub record StepCalls (d : Dispatcher) (x : FrontState × Out) : Type 0 where

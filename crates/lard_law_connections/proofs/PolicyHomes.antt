@@ -66,6 +66,7 @@ one-in c l (rec.Released d) = less-any c d l.ins
 one-in c l (rec.AssignedFirst d r path n add remove) = refl
 one-in c l (rec.AssignedLater d r path n add size queue) = refl
 one-in c l (rec.BatchOver d) = refl
+one-in c l (rec.Closed n) = refl
 one-in c l (rec.Clock time) = refl
 one-in c l _ = refl
 
@@ -105,6 +106,7 @@ one-home c l (rec.AssignedFirst d r path n add remove) = connected-home l.loads 
 one-home c l (rec.Released d) = released-home l.loads c d
 one-home c l (rec.AssignedLater d r path n add size queue) = shared-home l.loads c d n size
 one-home c l (rec.BatchOver d) = ended-home l.loads c d
+one-home c l (rec.Closed n) = refl
 one-home c l (rec.Admitted d) = refl
 one-home c l (rec.Clock time) = refl
 one-home c l _ = refl

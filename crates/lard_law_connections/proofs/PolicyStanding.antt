@@ -14,7 +14,7 @@ use Rattle.lard_dispatch.proofs.Sharing.{add-home}
 use Rattle.lard_dispatch.proofs.Soundness.{begun-sound, home-node, open-there, other-stays}
 use Rattle.lard_dispatch.proofs.Standing.{at-nodes-put}
 use Rattle.lard_history.proofs.Seeing.{by_number, other_number, same_number}
-use Rattle.lard_loads.proofs.Firsts.{filter-all}
+use Rattle.lard_loads.proofs.Firsts.{filter-all, filter-both}
 use Rattle.lard_journal.specs.declared.rec.Rec.TheVariants as rec
 
 pub record HasNodes (cfg : Config) (l : Ledger) : Type 0 where
@@ -130,22 +130,14 @@ all-has cfg some l (r ∷ rs) has may = all-has cfg some (ledger_step l r) rs (o
 pub equal-turned : (a b : ℕ) → nat_eq a b ≡ nat_eq b a
 equal-turned a b = by_number (nat_eq a b ≡ nat_eq b a) a b (λ e. ap (λ (n : ℕ). nat_eq n b) e ∙ same_number b ∙ sym (ap (nat_eq b) e ∙ same_number b)) (λ n. other_number a b n ∙ sym (other_number b a (λ e. n (sym e))))
 
--- a filter behind another one
-filters : (p q r : ℕ → Bool) → ((m : ℕ) → (q m && p m) ≡ r m) → (ms : List ℕ) → filter p (filter q ms) ≡ filter r ms
-filters p q r same [] = refl
-filters p q r same (m ∷ ms) = go (q m) refl (filters p q r same ms) where
-  go : (b : Bool) → q m ≡ b → filter p (filter q ms) ≡ filter r ms → filter p (cond b (m ∷ filter q ms) (filter q ms)) ≡ cond (r m) (m ∷ filter r ms) (filter r ms)
-  go true e more =
-      ap (λ c. cond c (m ∷ filter p (filter q ms)) (filter p (filter q ms))) (ap (λ c. c && p m) (sym e) ∙ same m) ∙ ap (λ l. cond (r m) (m ∷ l) l) more
-  go false e more = more ∙ sym (ap (λ c. cond c (m ∷ filter r ms) (filter r ms)) (sym (same m) ∙ ap (λ c. c && p m) e))
-
 -- the nodes that are open behind a record are those that it does not close
 one-open : (cfg : Config) (ns : List ℕ) (l : Ledger) (was : ℕ → Bool) (r : Rec) → l.loads.open_nodes ≡ filter (λ m. not (was m)) ns
     → (ledger_step l r).loads.open_nodes ≡ filter (λ m. not (node_closed_step m (was m) r)) ns
-one-open cfg ns l was (rec.Closed n) h = ap (filter (λ m. not (nat_eq m n))) h ∙ filters (λ m. not (nat_eq m n)) (λ m. not (was m)) (λ m. not (node_closed_step m (was m) (rec.Closed n)))
-    (λ m. by (was m) (nat_eq m n) ∙ ap (λ b. not (cond b true (was m))) (equal-turned m n)) ns
+one-open cfg ns l was (rec.Closed n) h = ap (filter (λ m. not (nat_eq m n))) h
+    ∙ sym (filter-both (λ m. not (node_closed_step m (was m) (rec.Closed n))) (λ m. not (nat_eq m n)) (λ m. not (was m)) ns
+    (λ m within. ap (λ b. not (cond b true (was m))) (equal-turned n m) ∙ by (was m) (nat_eq m n)))
   where
-    by : (w b : Bool) → (not w && not b) ≡ not (cond b true w)
+    by : (w b : Bool) → not (cond b true w) ≡ (not b && not w)
     by true true = refl
     by true false = refl
     by false true = refl

@@ -5,9 +5,8 @@ use Rattle.std.proofs.lemmas.List.Sums.{fold-append}
 use Rattle.std.specs.List.{fold, list_all}
 use Rattle.lard_law_view.specs.Prelude.{Event, HasRule, IsStep, IsViewed, Machine, Out, Packet, Place, Rec, answered_step, clocked, is_opening, is_own, lose_at, machine_step, machine_told, net_of, net_step, node_at, packets_of, passed, segments_sent, sent_records, told_rows}
 use Rattle.lard_base.specs.declared.event.Event.TheVariants as event
-use Rattle.lard_law_view.proofs.AnyShape.{AnyShape, IsAct, SomeGift, SomeNote, SomeTimer, some-kind, step-any}
+use Rattle.lard_law_view.proofs.AnyShape.{AnyShape, IsAct, SomeGift, SomeNote, SomeTimer, some-noted, step-any}
 use Rattle.lard_law_view.proofs.OfKinds.{OfTimers, of-gift, of-sents, of-timer}
-use Rattle.lard_law_view.proofs.RecordKinds.{any-kind, kind_of}
 use Rattle.lard_law_view.proofs.Saying.{IsStill, gave-still, note-passes}
 use Rattle.lard_law_view.proofs.Shapes.{HasJobs, IsPut}
 use Rattle.lard_law_view.proofs.Timers.{timer-still}
@@ -78,7 +77,7 @@ record IsStillOut (o : Out) : Type 0 where
   timers : Each (λ r. IsStill r × IsQuiet r) o.timers
 
 some-still : (place : Place) (r : Rec) → SomeNote place r → IsStill r
-some-still place r h = note-passes r (any-kind place (kind_of r) (some-kind place r h))
+some-still place r h = note-passes r (some-noted place r h)
 
 act-still : (m w : Machine) (e : Event) (place : Place) (o : Out) → IsAct m w e place o → IsStillOut o
 act-still m w e place o act = record {

@@ -8,7 +8,7 @@ use Rattle.lard_law_view.specs.Prelude.{Conn, Event, Front, GoesBetween, HasRule
 use Rattle.lard_base.specs.declared.event.Event.TheVariants as event
 use Rattle.lard_law_view.proofs.Fine.{IsFine, fine}
 use Rattle.lard_law_view.proofs.Heads.{ActsAt, Begins}
-use Rattle.lard_law_view.proofs.RecordKinds.{IsOfPlace, kind_of}
+use Rattle.lard_law_view.proofs.RecordKinds.{IsNote, IsOfPlace, any-kind, kind_of}
 use Rattle.lard_law_view.proofs.Saying.{AllBetween, AreMessages, GaveAt, IsStill, NotedAt, messages-between, note-kind}
 use Rattle.lard_law_view.proofs.Shapes.{ActsOn, ActsOnEach, ActsOnTwo, IsMover, IsNobodyAt, IsPut, IsUnheardAt, Mover, NamesNobody, Shapes, both_out, each_out}
 use Rattle.lard_law_view.proofs.Stepping.{step-has}
@@ -16,7 +16,7 @@ use Rattle.lard_law_view.proofs.Timers.{IsTimerAt, timer_rows-are}
 use Rattle.lard_history.proofs.Each.{Each, Each-append, Each-weaker}
 use Rattle.lard_journal.specs.declared.rec.Rec.TheVariants as rec
 use Rattle.lard_law_view.proofs.Firsts.{HasOwn}
-use Rattle.lard_law_view.proofs.OwnRecords.{behind}
+use Rattle.lard_law_view.proofs.OwnRecords.{IsDrain, IsNoClosing, behind}
 
 -- ---- of some connection
 
@@ -41,6 +41,7 @@ pub record IsAct (m w : Machine) (e : Event) (place : Place) (o : Out) : Type 0 
   pub acts : ActsAt m.net e place
   pub first : HasOwn e (behind e ++ o.notes)
   pub notes : Each (SomeNote place) o.notes
+  pub closes : IsDrain e ⊎ Each IsNoClosing o.notes
   pub segments : Each (SomeSent place) o.segments
   pub gave : Each (SomeGift place) o.gave
   pub messages : Each (SomeSent place) o.messages
@@ -68,6 +69,19 @@ nobody-counts : (place : Place) (n : ℕ) (r : Rec) → NamesNobody place r → 
 nobody-counts Front n (rec.Closed i) h = refl
 nobody-counts (Node i) n (rec.Hit k path) h = refl
 nobody-counts _ n _ h = absurd h
+
+pub some-noted : (place : Place) (r : Rec) → SomeNote place r → IsNote r
+some-noted place r h = any-kind place (kind_of r) (some-kind place r h)
+
+-- what is noted of a connection closes no node
+note-closing : (place : Place) (c : ℕ) (r : Rec) → NotedAt place c r → IsNoClosing r
+note-closing Front c (rec.Closed n) h = absurd h
+note-closing (Node k) c (rec.Closed n) h = absurd h
+note-closing (Client d) c (rec.Closed n) h = absurd h
+note-closing _ c _ h = tt
+
+notes-closing : (place : Place) (c : ℕ) (rs : List Rec) → Each (NotedAt place c) rs → Each IsNoClosing rs
+notes-closing place c rs h = Each-weaker (NotedAt place c) IsNoClosing (note-closing place c) rs h
 
 pub none-seen : (place : Place) (q : ℕ) (net : List Packet) (rs : List Rec) → Each (NamesNobody place) rs → seen_on q net rs ≡ []
 none-seen place q net [] h = refl
@@ -121,6 +135,7 @@ module _ (m w : Machine) (e : Event) where
     acts = act.begins.acts;
     first = act.first;
     notes = some-notes place c o.notes act.number act.said.notes;
+    closes = inr (notes-closing place c o.notes act.said.notes);
     segments = some-sents place c o.segments act.number act.said.segments;
     gave = some-gifts place c o.gave act.said.gave;
     messages = some-messages place c o.messages act.number act.said.messages;
@@ -135,6 +150,8 @@ module _ (m w : Machine) (e : Event) where
     uncounted = act.begins.uncounted;
     acts = act.begins.acts;
     first = act.first;
+    closes = inr (each-three IsNoClosing a.notes b.notes z.notes (notes-closing Front c a.notes act.said.notes) (notes-closing Front d b.notes act.said_too.notes)
+        (notes-closing Front c z.notes act.said_rest.notes));
     notes = each-three (SomeNote Front) a.notes b.notes z.notes (some-notes Front c a.notes act.number act.said.notes) (some-notes Front d b.notes act.number_too act.said_too.notes)
         (some-notes Front c z.notes act.number act.said_rest.notes);
     segments = each-three (SomeSent Front) a.segments b.segments z.segments (some-sents Front c a.segments act.number act.said.segments)
@@ -161,6 +178,7 @@ module _ (m w : Machine) (e : Event) where
         acts = any.acts;
         first = act.first;
         notes = Each-weaker (NamesNobody place) (SomeNote place) (λ r h. inr h) notes act.nobody;
+        closes = act.closes;
         segments = tt;
         gave = each-flat (SomeGift place) (λ x. x.gave) xs (Each-weaker (IsMover m w place) (λ x. Each (SomeGift place) x.gave) (λ x h. some-gifts place x.c x.gave h.gave) xs act.movers);
         messages = each-flat (SomeSent place) (λ x. x.messages) xs

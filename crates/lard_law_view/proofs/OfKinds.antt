@@ -97,7 +97,7 @@ module _ (P : Rec → Type 0) where
 
 -- ---- records that tell of no packet that is sent
 
-noted-unsent : (r : Rec) → IsNote r → IsUnsent r
+pub noted-unsent : (r : Rec) → IsNote r → IsUnsent r
 noted-unsent (rec.Sent k from to bytes) h = absurd h
 noted-unsent _ h = tt
 

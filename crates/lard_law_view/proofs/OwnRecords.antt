@@ -14,6 +14,16 @@ behind (event.Lose k) = rec.Lost k ∷ []
 behind (event.Inject c bytes) = rec.Injected c ∷ []
 behind _ = []
 
+-- the event closes a node
+abbrev pub IsDrain : Event → Type 0
+IsDrain (event.Drain n) = Unit {0}
+IsDrain _ = ⊥
+
+-- it closes no node
+abbrev pub IsNoClosing : Rec → Type 0
+IsNoClosing (rec.Closed n) = ⊥
+IsNoClosing _ = Unit {0}
+
 -- it stands behind an event that names connection c, and says nothing of packets
 abbrev pub IsAside : ℕ → Rec → Type 0
 IsAside c (rec.Opened d isn iss wnd mss) = d ≡ c

@@ -12,7 +12,7 @@ use Rattle.lard_law_view.proofs.Turned.{IsSaid}
 use Rattle.lard_history.proofs.Each.{Each}
 use Rattle.lard_journal.specs.declared.rec.Rec.TheVariants as rec
 use Rattle.lard_law_view.proofs.Firsts.{HasOwn}
-use Rattle.lard_law_view.proofs.OwnRecords.{behind}
+use Rattle.lard_law_view.proofs.OwnRecords.{IsDrain, IsNoClosing, behind}
 
 -- each job of each disk is of a connection
 abbrev pub HasJobs : Machine → Type 0
@@ -140,6 +140,7 @@ pub record ActsOnEach (m w : Machine) (e : Event) (place : Place) (notes : List 
   pub begins : (c : ℕ) → Begins m e place c []
   pub first : HasOwn e (behind e ++ notes)
   pub nobody : Each (NamesNobody place) notes
+  pub closes : IsDrain e ⊎ Each IsNoClosing notes
   pub rising : AreRising xs
   pub movers : Each (IsMover m w place) xs
   pub others : (q : ℕ) → Each (λ x. q ≢ x.c) xs → part_of w q ≡ part_of m q

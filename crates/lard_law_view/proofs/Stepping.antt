@@ -189,6 +189,7 @@ module _ (m : Machine) (view : IsViewed m) (P : Conn → Move → Type 0) (R : R
           machine = tt;
           begins = drains m i;
           first = own-alone (event.Drain i) (closed_note m.front.dispatch i) (cond_both open_ (rec.Closed i ∷ []) [] (AreOwn (event.Drain i)) (λ t. inl refl) (λ t. inr refl));
+          closes = inl tt;
           nobody = cond_both open_ (rec.Closed i ∷ []) [] (Each (NamesNobody Front)) (λ t. (tt, tt)) (λ t. tt);
           rising = tt;
           movers = tt;
