@@ -4,7 +4,6 @@ use Rattle.std.proofs.lemmas.Bool.{and_parts, cond_both, eqb-true}
 use Rattle.std.proofs.lemmas.Bool.Decides.{nat_tests}
 use Rattle.std.specs.FinMap as map
 use Rattle.std.specs.FinMap.{len-insert}
-use Rattle.std.specs.List.{AllByRecursion, list_any}
 use Rattle.std.specs.Cmp.{nat_cmp_total}
 use Rattle.lard_base.specs.Config.{config_check, room_of}
 use Rattle.lard_base.specs.declared.config.Config.{Config}
@@ -18,7 +17,7 @@ use Rattle.lard_dispatch.proofs.AllCalls.{some-node}
 use Rattle.lard_dispatch.proofs.Chosen.{IsChosen, choice-within}
 use Rattle.lard_dispatch.proofs.Counted.{later-has}
 use Rattle.lard_dispatch.proofs.Servers.{before-closed, before-joined, before-reduced, before-touched}
-use Rattle.lard_dispatch.proofs.Soundness.{admission, begun-sound, closing-kept, ended-batch-kept, ended-kept, home-node, is-in, room-left, shares-kept}
+use Rattle.lard_dispatch.proofs.Soundness.{admission, begun-sound, closing-kept, ended-batch-kept, ended-kept, home-node, is-in, open-node, room-left, shares-kept}
 use Rattle.lard_loads.specs.Tally.{Standing, Tally, batch_ended, connected, batch_ended_with, has_other_open, home, is_open, open_shares, released, shared, sharing, tally_closed}
 use Rattle.lard_loads.specs.Tally as tally
 use Rattle.lard_policy.specs.declared.first.FirstChoice.{FirstChoice}
@@ -70,18 +69,10 @@ ended-sound b c s = record { sound = ended-batch-kept (dispatcher_of b) c s.soun
 
 -- ---- a node that closes
 
--- an open node is one that there is
-open-node : (nodes n : ℕ) (ns : List ℕ) → AllByRecursion (IsNode nodes) ns → list_any (nat_eq n) ns ≡ true → IsNode nodes n
-open-node nodes n [] all h = let no : false ≡ true = h in absurd cc
-open-node nodes n (m ∷ ms) all h = go (nat_eq n m) refl (open-node nodes n ms all.1) h where
-  go : (b : Bool) → nat_eq n m ≡ b → (list_any (nat_eq n) ms ≡ true → IsNode nodes n) → (b || list_any (nat_eq n) ms) ≡ true → IsNode nodes n
-  go true same later t = subst (IsNode nodes) (sym (eqb-true n m same)) all.0
-  go false other later t = later t
-
 pub close-sound : (b : AuditBooks) (n : ℕ) → AreSound b → is_open b.loads n ≡ true → has_other_open b.loads n ≡ true
     → AreSound (record b { loads = tally_closed b.loads n; sets = sets_closed b.sets n })
 close-sound b n s here other = record {
-  sound = closing-kept (dispatcher_of b) n s.sound (open-node b.config.nodes n b.loads.open_nodes s.sound.open_nodes here) other;
+  sound = closing-kept (dispatcher_of b) n s.sound (open-node (dispatcher_of b) n s.sound here) other;
   before = before-closed b.time b.sets n s.before;
   free = s.free;
 }

@@ -4,13 +4,12 @@ use Rattle.std.specs.Prelude.{is_none}
 use Rattle.std.proofs.lemmas.Bool.{and_from, le-leb, lt-ltb}
 use Rattle.std.proofs.lemmas.Slice.Eq.{bytes_eq-Decides}
 use Rattle.lard_audit.specs.Sound.{audit_files_of, audit_first_at, is_first_choice, is_audit_job, is_later_choice, is_owner, is_same, audit_job_at, job_behind, job_by, keeps_admission, keeps_cache, keeps_choice, keeps_clock, keeps_later, keeps_network, keeps_owner, keeps_room, keeps_sender, audit_last_of, may_arrive, may_audit_send}
-use Rattle.lard_law_view.specs.Prelude.{Client, Config, Event, FirstChoice, Front, LaterChoice, MayInNetwork, MayOwn, MaySend, MayTime, Node, OwnerSends, Place, Rec, file_at, goal_of, has_path, home, is_lost, is_place, last_epoch, later_choice, open_shares, owner, room_of, sent_count, time_of}
+use Rattle.lard_law_view.specs.Prelude.{Client, Config, Event, FirstChoice, Front, LaterChoice, MayInNetwork, MayOwn, MaySend, MayTime, Node, OwnerSends, Place, Rec, file_at, goal_of, has_other_open, has_path, home, is_lost, is_open, is_place, last_epoch, later_choice, open_shares, owner, room_of, sent_count, time_of}
 use Rattle.lard_base.specs.declared.event.Event.TheVariants as event
 use Rattle.lard_counts.specs.Ledger.{Ledger, ledger_admitted, is_in_ledger, server_set}
 use Rattle.lard_counts.specs.Stores.{Waiting, cached, jobs}
 use Rattle.lard_history.proofs.Seeing.{same_number}
 use Rattle.lard_journal.specs.declared.rec.Rec.TheVariants as rec
-use Rattle.lard_loads.specs.Tally.{has_other_open, is_open}
 use Rattle.lard_law_audit.specs.Laws.{file_lengths}
 use Rattle.lard_law_audit.proofs.Behind.{MayPair, ReadsBehind, event-last, event_in}
 use Rattle.lard_law_audit.proofs.Files.{cached-same, size-there}
