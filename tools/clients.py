@@ -95,6 +95,16 @@ def ends(wanted):
     return judge
 
 
+def goes_elsewhere(done):
+    """Whether node 1 is closed, and no connection goes there behind that."""
+    told, closed = records(done.folder), ["closed", "n1"]
+    behind = told[told.index(closed):] if closed in told else None
+    if behind is None:
+        return "node 1 is not closed"
+    first = [words for words in behind if words[0] == "assigned" and words[3] == "first" and words[5] == "1"]
+    return "to node 1, which is closed: " + " ".join(first[0]) if first else ""
+
+
 def has_windows_closed(done):
     """Whether some client told a window of 0 behind its SYN, in bytes 14 and 15 of a segment."""
     told = [words[4] for words in records(done.folder) if words[0] == "sent" and words[2][0] == "c"]
@@ -300,6 +310,7 @@ def runs():
     yield run("Connection: close", curl(1, "-i", "-H", "Connection: close", PAGE), is_file("/page", closing))
     for seed in ("1", "2", "3"):
         yield run("loss with seed " + seed, eight(curl), got_eight, 32, options=["--seed", seed, "--loss", "2", "--repeat", "2"])
+    yield run("a node that is closed while eight ask", eight(curl), both(got_eight, goes_elsewhere), 32, options=["--drain", "1:0.05"])
     yield run("a request byte by byte", python(BYTE_BY_BYTE), is_file("/page", closing), needs=None)
     yield run("a client that closes early", python(CLOSES_EARLY), is_short, needs=None)
     yield run("ten that write their heads slowly", python(SLOW_WRITERS), has_slow_heads, 11, None)
