@@ -9,12 +9,12 @@ use Rattle.lard_law_connections.specs.LineLaws.{AlwaysConfigured}
 use Rattle.lard_law_connections.specs.PolicyLaws.{AtEveryMoment}
 
 -- the node that a record says is closed
-abbrev pub closes : Rec → List ℕ
-closes (rec.Closed n) = n ∷ []
-closes _ = []
+abbrev pub closing_of : Rec → List ℕ
+closing_of (rec.Closed n) = n ∷ []
+closing_of _ = []
 
 abbrev pub closed_in : List Rec → List ℕ
-closed_in step = flat_map closes step
+closed_in step = flat_map closing_of step
 
 -- the node that an event is to close: that of a `drain`, where it is open
 abbrev pub to_close : List Rec → Event → List ℕ
