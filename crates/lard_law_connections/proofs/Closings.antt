@@ -68,23 +68,24 @@ module _ (m : Machine) where
 
 -- ---- a drain
 
--- it was refused, or a node is closed by it
-pub drain-is : (m n : Machine) (i : ℕ) → machine_step m (event.Drain i) ≡ Ok n → (is_no_node m.config.nodes i ≡ false) × (n ≡ front_acts m (event.Drain i) [] (input.Drain i))
+abbrev drain-after : Machine → ℕ → Machine
+drain-after m i = front_acts m (event.Drain i) [] (input.Drain i)
+
+abbrev drain-by : Machine → ℕ → Bool → Result Machine StepFault
+drain-by m i b = cond b (Ok (drain-after m i)) (Err (Refused (LastNode i)))
+
+-- it is done: the node is there, and is closed
+pub drain-is : (m n : Machine) (i : ℕ) → machine_step m (event.Drain i) ≡ Ok n → (is_no_node m.config.nodes i ≡ false) × (n ≡ drain-after m i)
 unfolding drained
 drain-is m n i is = go (is_no_node m.config.nodes i) refl (done-happens m n (event.Drain i) is).1 where
-  abbrev after : Machine
-  after = front_acts m (event.Drain i) [] (input.Drain i)
-
-  abbrev rest : Bool → Result Machine StepFault
-  rest b = cond b (Ok after) (Err (Refused (LastNode i)))
-
-  other : (b : Bool) → rest b ≡ Ok n → n ≡ after
-  other true e = sym (ok-same after n e)
+  other : (b : Bool) → drain-by m i b ≡ Ok n → n ≡ drain-after m i
+  other true e = sym (ok-same (drain-after m i) n e)
   other false e = cc
 
-  go : (b : Bool) → is_no_node m.config.nodes i ≡ b → cond b (Err (Refused (NoNode i m.config.nodes))) (rest (has_other_open m.front.dispatch.books.loads i)) ≡ Ok n
-      → (is_no_node m.config.nodes i ≡ false) × (n ≡ after)
-  go true there e = cc
+  go : (b : Bool) → is_no_node m.config.nodes i ≡ b
+      → cond {A = Result Machine StepFault} b (Err (Refused (NoNode i m.config.nodes))) (drain-by m i (has_other_open m.front.dispatch.books.loads i)) ≡ Ok n
+      → (is_no_node m.config.nodes i ≡ false) × (n ≡ drain-after m i)
+  go true none e = cc
   go false there e = (there, other (has_other_open m.front.dispatch.books.loads i) e)
 
 -- a node that there is
@@ -92,7 +93,7 @@ within-nodes : (nodes i : ℕ) → is_no_node nodes i ≡ false → IsIn i (numb
 within-nodes nodes i there = in_range 1 nodes i (grind (arith, nat_tests, there)) (grind (arith, nat_tests, there))
 
 -- the journal's rows of a drain
-drain-rows : (m : Machine) (i : ℕ) → (front_acts m (event.Drain i) [] (input.Drain i)).journal ≡ m.journal ++ rec.Event (m.events + 1) (event.Drain i) ∷ closed_note m.front.dispatch i
+drain-rows : (m : Machine) (i : ℕ) → (drain-after m i).journal ≡ m.journal ++ rec.Event (m.events + 1) (event.Drain i) ∷ closed_note m.front.dispatch i
 drain-rows m i = told-journal (record m { front = (front_drains m.front i).0 }) (event.Drain i) Front (front_drains m.front i).1
     ∙ ap (λ (rs : List Rec). m.journal ++ rec.Event (m.events + 1) (event.Drain i) ∷ rs) (append-nil (closed_note m.front.dispatch i))
 

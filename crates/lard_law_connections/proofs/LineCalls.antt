@@ -160,20 +160,20 @@ module _ (k : FrontSetting) (s : FrontState) (sound : IsFrontSound s) where
   message-calls from (Ok m) told = told-calls from m.c m.epoch.0 m.body told
 
   -- a node that is open is closed
+  abbrev closed : ℕ → Dispatcher
+  closed n = record s.dispatch { books = record s.dispatch.books { loads = tally_closed s.dispatch.books.loads n; sets = sets_closed s.dispatch.books.sets n } }
+
   drain-calls : (n : ℕ) → MayDrain s (input.Drain n) → Calls (front_drains s n)
   drain-calls n other = go (is_open s.dispatch.books.loads n) refl where
-    abbrev after : Dispatcher
-    after = record s.dispatch { books = record s.dispatch.books { loads = tally_closed s.dispatch.books.loads n; sets = sets_closed s.dispatch.books.sets n } }
-
-    go : (b : Bool) → is_open s.dispatch.books.loads n ≡ b → Calls (record s { dispatch = cond b after s.dispatch }, record nothing_done { notes = cond b (rec.Closed n ∷ []) [] })
+    go : (b : Bool) → is_open s.dispatch.books.loads n ≡ b → Calls (record s { dispatch = cond b (closed n) s.dispatch }, record nothing_done { notes = cond b (rec.Closed n ∷ []) [] })
     go true opened = record {
       calls = call.Close n ∷ [];
-      is = sym (ap (λ b. cond b after s.dispatch) opened);
+      is = sym (ap (λ b. cond b (closed n) s.dispatch) opened);
       allowed = (other, tt);
       closes = λ e. absurd e.0;
       in_range = λ e. (tt, tt);
     }
-    go false closed = still-calls nothing_done
+    go false e = still-calls nothing_done
 
   pub step-calls : (i : FrontIn) → MayDrain s i → Calls (front_step k s i)
   step-calls (input.Segment c iss bytes) may = deed-calls c (front_gets (front_env k s c iss.0) (front_part s c) bytes (decoded bytes c ToCluster))

@@ -158,14 +158,14 @@ all-open cfg ns l was (r ∷ rs) h = all-open cfg ns (ledger_step l r) (λ m. no
 pub told-open : (cfg : Config) (J : List Rec) → (ledger cfg J).loads.open_nodes ≡ filter (λ n. not (is_node_closed J n)) (numbers cfg.nodes)
 told-open cfg J = all-open cfg (numbers cfg.nodes) (blank_ledger cfg) (λ m. false) J (sym (filter-all (λ m. true) (numbers cfg.nodes) (λ n h. refl)))
 
+-- a node that is not out
+abbrev SomeIn : ℕ → (ℕ → Bool) → Type 0
+SomeIn nodes out = (n : ℕ) × (1 ≤ n) × (n ≤ nodes) × (out n ≡ false)
+
 -- some node of those that are open
-pub some-stays : (nodes : ℕ) (out : ℕ → Bool) (ns : List ℕ) → AllByRecursion (IsNode nodes) ns → 0 < length (filter (λ n. not (out n)) ns)
-    → (n : ℕ) × (1 ≤ n) × (n ≤ nodes) × (out n ≡ false)
+pub some-stays : (nodes : ℕ) (out : ℕ → Bool) (ns : List ℕ) → AllByRecursion (IsNode nodes) ns → 0 < length (filter (λ n. not (out n)) ns) → SomeIn nodes out
 some-stays nodes out [] all h = absurd (omega (arith, h))
 some-stays nodes out (m ∷ ms) all h = go (out m) refl h (some-stays nodes out ms all.1) where
-  abbrev Some_ : Type 0
-  Some_ = (n : ℕ) × (1 ≤ n) × (n ≤ nodes) × (out n ≡ false)
-
-  go : (b : Bool) → out m ≡ b → 0 < length (cond (not b) (m ∷ filter (λ n. not (out n)) ms) (filter (λ n. not (out n)) ms)) → (0 < length (filter (λ n. not (out n)) ms) → Some_) → Some_
+  go : (b : Bool) → out m ≡ b → 0 < length (cond (not b) (m ∷ filter (λ n. not (out n)) ms) (filter (λ n. not (out n)) ms)) → (0 < length (filter (λ n. not (out n)) ms) → SomeIn nodes out) → SomeIn nodes out
   go true e t more = more t
   go false e t more = (m, all.0.0, all.0.1, e)

@@ -250,16 +250,16 @@ module _ (k : FrontSetting) (s : FrontState) (sound : IsFrontSound s) (lined : A
   message-tells from (Err e) told = still-tells
   message-tells from (Ok m) told = told-tells from m.c m.epoch.0 m.body told
 
+  -- a node is closed, where it was open
+  abbrev closing : ℕ → Bool → FrontState × Out
+  closing n b = (
+    record s { dispatch = cond b (record s.dispatch { books = record s.dispatch.books { loads = tally_closed s.dispatch.books.loads n; sets = sets_closed s.dispatch.books.sets n } }) s.dispatch },
+    record nothing_done { notes = cond b (rec.Closed n ∷ []) [] },
+  )
+
   drain-tells : (n : ℕ) → MayDrain s (input.Drain n) → Fine (front_drains s n)
   drain-tells n other = go (is_open s.dispatch.books.loads n) refl where
-    -- by whether it was open
-    abbrev by : Bool → FrontState × Out
-    by b = (
-      record s { dispatch = cond b (record s.dispatch { books = record s.dispatch.books { loads = tally_closed s.dispatch.books.loads n; sets = sets_closed s.dispatch.books.sets n } }) s.dispatch },
-      record nothing_done { notes = cond b (rec.Closed n ∷ []) [] },
-    )
-
-    go : (b : Bool) → is_open s.dispatch.books.loads n ≡ b → Fine (by b)
+    go : (b : Bool) → is_open s.dispatch.books.loads n ≡ b → Fine (closing n b)
     go true opened = record {
       leads = close-leads s.dispatch.config k.now ins s.dispatch.books in_ n opened other;
       gave = tt;

@@ -1,7 +1,7 @@
 -- What is so of a step in which a place acts, whatever its shape: each of its records is of some connection, or of none. A law that
 -- looks at records alone is proved by this, and needs no case for a shape.
-use Rattle.std.proofs.Common.{◌≡◌, ℕ, ◌+◌, ◌-◌, List, [], ◌∷◌, ◌++◌, false, Some, Ok, refl, sym, ap, ◌∙◌, subst, ⊎_elim, arith}
-use Rattle.std.specs.Prelude.{◌⊎◌, inl, inr}
+use Rattle.std.proofs.Common.{◌≡◌, ℕ, ◌+◌, ◌-◌, List, [], ◌∷◌, ◌++◌, false, Some, Ok, refl, sym, ap, ◌∙◌, subst, ⊎_elim, inl, inr, arith}
+use Rattle.std.specs.Prelude.{◌⊎◌}
 use Rattle.std.proofs.lemmas.List.Sums.{fold-append}
 use Rattle.std.specs.List.{flat_map, fold}
 use Rattle.lard_law_view.specs.Prelude.{Conn, Event, Front, GoesBetween, HasRule, IsConnNumber, IsViewed, Machine, Move, Node, Out, Packet, Part, Place, Rec, Seen, answered_step, clocked, lose_at, machine_step, machine_told, net_step, packet_at, part_of, passed, seen_of, seen_on, setting_of, timer_rows}

@@ -1,7 +1,7 @@
 -- What is seen of an event, before all notes.
 use Rattle.std.proofs.Common.{◌≡◌, ◌≢◌, ℕ, List, [], ◌∷◌, ◌++◌, map, false, Some, None, refl, ap, ◌∙◌, subst}
 use Rattle.std.specs.List.{fold}
-use Rattle.lard_law_view.specs.Prelude.{Came, Event, Has, Letter, Machine, Node, Packet, Place, Rec, Row, Seen, Was, acting_in, answered_step, came_seen, conn, conn_of, event_conn, letter_of, one_of, packet_at, packet_seen, plain, seen_on, whose}
+use Rattle.lard_law_view.specs.Prelude.{Came, Event, Front, Has, Letter, Machine, Node, Packet, Place, Rec, Row, Seen, Was, acting_in, answered_step, came_seen, conn, conn_of, event_conn, letter_of, one_of, packet_at, packet_seen, plain, seen_on, whose}
 use Rattle.lard_base.specs.declared.event.Event.TheVariants as event
 use Rattle.lard_law_view.proofs.Saying.{IsStill}
 use Rattle.lard_history.proofs.Each.{Each, Each-weaker}

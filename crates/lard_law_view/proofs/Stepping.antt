@@ -1,7 +1,6 @@
 -- A step that is done has one of the shapes.
-use Rattle.std.proofs.Common.{◌≡◌, ℕ, ◌-◌, Bool, true, false, cond, nat_lt, List, [], ◌∷◌, length, Option, Some, None, Result, Ok, Err, refl, sym, ap, ◌∙◌, subst, ◌++◌}
+use Rattle.std.proofs.Common.{◌≡◌, ℕ, ◌-◌, Bool, true, false, cond, nat_lt, List, [], ◌∷◌, length, Option, Some, None, Result, Ok, Err, refl, sym, ap, ◌∙◌, subst, ◌++◌, inl, inr}
 use Rattle.std.specs.FinMap as table
-use Rattle.std.specs.Prelude.{inl, inr}
 use Rattle.std.proofs.lemmas.Bool.{cond_both}
 use Rattle.lard_history.proofs.Each.{Each}
 use Rattle.lard_law_view.specs.Prelude.{AreOwn, Client, ClientBlock, Conn, Event, Front, HasRule, IsUnheard, IsViewed, Machine, Move, Node, NodeState, Packet, Place, Rec, Rules, Seen, Station, StepFault, ToClient, Turn, What, client_aborts, client_acts, client_gets, client_goes_on, client_holds, client_injects, client_opens, client_shuts, client_takes, client_timer, client_writes, closed_note, completes, conn, conn_of, decoded, decoded_message, delivered, disk_at, drained, from_place, front_acts, front_drains, happens, has_other_open, is_client_armed, is_no_job, is_no_node, is_open, limit_reached, lose_at, lost, machine_opened, machine_step, machine_to_client, machine_to_front, machine_wrote, node_acts, node_at, node_gave, node_setting, node_step, packet_at, part_of, passed, request, setting_of, station_armed, timer, to_place, unless_limit, written_len}
@@ -196,20 +195,18 @@ module _ (m : Machine) (view : IsViewed m) (P : Conn → Move → Type 0) (R : R
           others = λ q h. refl;
         }
 
+    -- by whether another one is open
+    abbrev closes : ℕ → Bool → Result Machine StepFault
+    closes i b = cond b (Ok (front_acts m (event.Drain i) [] (input.Drain i))) (Err (Refused (LastNode i)))
+
     drained-is : (i : ℕ) → drained m i ≡ Ok n → Q (event.Drain i) n
     unfolding drained
     drained-is i is = there (is_no_node m.config.nodes i) is where
-      abbrev last : Result Machine StepFault
-      last = Err (Refused (LastNode i))
-
-      abbrev after : Machine
-      after = front_acts m (event.Drain i) [] (input.Drain i)
-
-      other : (b : Bool) → cond b (Ok after) last ≡ Ok n → Q (event.Drain i) n
-      other true e = done (event.Drain i) after (shapes.each _ (event.Drain i) Front (closed_note m.front.dispatch i) [] (drain-acts i) tt) e
+      other : (b : Bool) → closes i b ≡ Ok n → Q (event.Drain i) n
+      other true e = done (event.Drain i) _ (shapes.each _ (event.Drain i) Front (closed_note m.front.dispatch i) [] (drain-acts i) tt) e
       other false e = cc
 
-      there : (b : Bool) → cond b (Err (Refused (NoNode i m.config.nodes))) (cond (has_other_open m.front.dispatch.books.loads i) (Ok after) last) ≡ Ok n → Q (event.Drain i) n
+      there : (b : Bool) → cond {A = Result Machine StepFault} b (Err (Refused (NoNode i m.config.nodes))) (closes i (has_other_open m.front.dispatch.books.loads i)) ≡ Ok n → Q (event.Drain i) n
       there true e = cc
       there false e = other (has_other_open m.front.dispatch.books.loads i) e
 
