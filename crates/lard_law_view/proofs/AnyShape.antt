@@ -4,7 +4,7 @@ use Rattle.std.proofs.Common.{◌≡◌, ℕ, ◌+◌, ◌-◌, List, [], ◌∷
 use Rattle.std.specs.Prelude.{◌⊎◌}
 use Rattle.std.proofs.lemmas.List.Sums.{fold-append}
 use Rattle.std.specs.List.{flat_map, fold}
-use Rattle.lard_law_view.specs.Prelude.{Conn, Event, Front, GoesBetween, HasRule, IsConnNumber, IsViewed, Machine, Move, Node, Out, Packet, Part, Place, Rec, Seen, answered_step, clocked, lose_at, machine_step, machine_told, net_step, packet_at, part_of, passed, seen_of, seen_on, setting_of, timer_rows}
+use Rattle.lard_law_view.specs.Prelude.{Client, Conn, Event, Front, GoesBetween, HasRule, IsConnNumber, IsViewed, Machine, Move, Node, Out, Packet, Part, Place, Rec, Seen, answered_step, clocked, lose_at, machine_step, machine_told, net_step, packet_at, part_of, passed, seen_of, seen_on, setting_of, timer_rows}
 use Rattle.lard_base.specs.declared.event.Event.TheVariants as event
 use Rattle.lard_law_view.proofs.Fine.{IsFine, fine}
 use Rattle.lard_law_view.proofs.Heads.{ActsAt, Begins}
