@@ -1,5 +1,5 @@
 -- The records of a step behind its event are no marks of steps and settles.
-use Rattle.std.proofs.Common.{◌≡◌, ℕ, ◌+◌, List, [], ◌∷◌, ◌++◌, length, Bool, true, false, Ok, refl, ap, ◌∙◌}
+use Rattle.std.proofs.Common.{◌≡◌, ℕ, ◌+◌, List, [], ◌∷◌, ◌++◌, length, false, Ok, refl, ap, ◌∙◌}
 use Rattle.lard_law_view.specs.Prelude.{Event, HasRule, IsViewed, Machine, Out, Place, Rec, clocked, machine_step, machine_told, segments_sent, sent_records, told_rows}
 use Rattle.lard_base.specs.declared.event.Event.TheVariants as event
 use Rattle.lard_law_view.proofs.AnyShape.{AnyShape, IsAct, SomeGift, SomeNote, SomeTimer, some-noted, step-any}
