@@ -4,7 +4,7 @@ use Rattle.std.proofs.Common.{◌≡◌, ℕ, ◌≤◌, Bool, true, false, List
 use Rattle.std.specs.List.{AllByRecursion}
 use Rattle.lard_law_connections.proofs.PolicyNumbers.{IsNumbered}
 use Rattle.lard_law_view.specs.Prelude.{AreAllowed, Ask, Body, Call, ClosesNone, Did, Dispatcher, Ending, Final, FirstChoice, FrontDeed, FrontEnv, FrontIn, FrontPart, FrontRest, FrontSetting, FrontState, FrontTurn, IsCallInRange, IsFrontSound, IsOfTable, Later, LaterChoice, MayDrain, Message, MsgFault, Out, Rec, Said, SegFault, ToCluster, Turn, admits, admits_too, after_calls, ask_of, assigned_notes, assigns, decoded, decoded_message, dispatch_standing, ended_answer, ended_deed, front_admitted, front_asked, front_deed, front_drains, front_ended, front_ends, front_env, front_fired, front_gets, front_part, front_rest, front_step, front_taken, front_timer, front_told, is_open, leaves_by, message_comes, next_epoch, nothing_done, over_note, put_back, serving_settled, sets_closed, spoken, tally_closed}
-use Rattle.lard_dispatch.specs.Laws.Call as call
+use Rattle.lard_dispatch.specs.Laws.Call.{Close}
 use Rattle.lard_rules.specs.Front.{Drops, Says, Does}
 use Rattle.lard_rules.proofs.FrontDeeds.{IsOf, asked-keeps, gets-keeps, many-choices, taken-keeps, timer-keeps}
 use Rattle.lard_rules.proofs.FrontEnded.{Comes, end-comes, may-end}
@@ -167,7 +167,7 @@ module _ (k : FrontSetting) (s : FrontState) (sound : IsFrontSound s) where
   drain-calls n other = go (is_open s.dispatch.books.loads n) refl where
     go : (b : Bool) → is_open s.dispatch.books.loads n ≡ b → Calls (record s { dispatch = cond b (closed n) s.dispatch }, record nothing_done { notes = cond b (rec.Closed n ∷ []) [] })
     go true opened = record {
-      calls = call.Close n ∷ [];
+      calls = Close n ∷ [];
       is = sym (ap (λ b. cond b (closed n) s.dispatch) opened);
       allowed = (other, tt);
       closes = λ e. absurd e.0;
