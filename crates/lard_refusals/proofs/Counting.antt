@@ -16,12 +16,12 @@ module _ (p : ℕ → Bool) where
 
   -- where none passes, none is counted
   none-counts : (a many : ℕ) → ((k : ℕ) → p k ≡ false) → count_by p (range_with_len a many) ≡ 0
-  none-counts a zero no = refl
-  none-counts a (suc many) no =
+  none-counts a zero none = refl
+  none-counts a (suc many) none =
       let step : count_by p (range_with_len a (suc many)) ≡ cond {A = ℕ} (p a) 1 0 + count_by p (range_with_len (a + 1) many)
       = sum_by-cons (λ (x : ℕ). cond {A = ℕ} (p x) 1 0) a (range_with_len (a + 1) many) in
-      let one : cond {A = ℕ} (p a) 1 0 ≡ 0 = ap (λ (b : Bool). cond {A = ℕ} b 1 0) (no a) in
-      let rest = none-counts (a + 1) many no in
+      let one : cond {A = ℕ} (p a) 1 0 ≡ 0 = ap (λ (b : Bool). cond {A = ℕ} b 1 0) (none a) in
+      let rest = none-counts (a + 1) many none in
       omega arith
 
   -- one of them that passes is counted
@@ -52,7 +52,7 @@ module _ (p : ℕ → Bool) where
   one-of-all k low high yes_ = one-counts k 1 most_connections low (omega (arith, most-is)) yes_
 
   pub none-of-all : ((k : ℕ) → p k ≡ false) → count_by p connections ≡ 0
-  none-of-all no = none-counts 1 most_connections no
+  none-of-all none = none-counts 1 most_connections none
 
   pub three-of-all : p 1 ≡ true → p 2 ≡ true → p 3 ≡ true → 3 ≤ count_by p connections
   three-of-all one two three = three-count most_connections (omega (arith, most-is)) one two three
