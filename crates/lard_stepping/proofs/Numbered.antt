@@ -1,18 +1,16 @@
 -- Node n is the n-th of the list, and its disk's jobs are counted from 1.
-use Rattle.std.proofs.Common.{◌≡◌, ℕ, zero, suc, ◌-◌, ◌≤◌, List, [], length, Bool, false, cond, Some, Result, Ok, Err, OnOk, slice_get, slice_set, true, sym, ap, ◌∙◌, arith}
+use Rattle.std.proofs.Common.{◌≡◌, ℕ, zero, suc, ◌-◌, ◌≤◌, List, [], length, Bool, false, cond, Some, Result, Ok, Err, OnOk, slice_get, slice_set, sym, ap, ◌∙◌, arith}
 use Rattle.std.proofs.lemmas.Bool.Decides.{nat_tests}
 use Rattle.lard_base.specs.declared.event.Event.{Event}
 use Rattle.lard_base.specs.declared.event.Event.TheVariants as event
 use Rattle.lard_base.specs.declared.errors.NoMemory.{NoMemory}
 use Rattle.lard_base.specs.declared.place.Place.TheVariants as place
-use Rattle.lard_dispatch.specs.Tally.{has_other_open}
-use Rattle.lard_rules.specs.Machine.{completes, disk_at, drained, front_acts, is_no_job, is_no_node, node_acts, node_at, node_gave, node_setting, machine_told}
+use Rattle.lard_rules.specs.Machine.{completes, disk_at, is_no_job, is_no_node, node_acts, node_at, node_gave, node_setting, machine_told}
 use Rattle.lard_rules.specs.declared.fault.StepFault.{StepFault}
-use Rattle.lard_rules.specs.declared.fault.Refusal.TheVariants.{NoNode, LastNode, NoJob}
+use Rattle.lard_rules.specs.declared.fault.Refusal.TheVariants.{NoNode, NoJob}
 use Rattle.lard_rules.specs.declared.fault.StepFault.TheVariants.{Refused}
 use Rattle.lard_rules.specs.declared.machine.Machine.{Machine}
 use Rattle.lard_journal.specs.declared.rec.Rec.{Rec}
-use Rattle.lard_rules.specs.declared.front.FrontIn.TheVariants as input
 use Rattle.lard_rules.specs.declared.node.BackIn.{BackIn}
 use Rattle.lard_rules.specs.declared.node.BackIn.TheVariants as back
 use Rattle.lard_rules.specs.declared.node.NodeState.{NodeState}
@@ -50,25 +48,3 @@ completes_is m n at j s node le is h job =
     ∙ ap (disk_at m n j) (there m.nodes n at s le is h)
     ∙ ap (λ (t : Bool). cond {A = Result Machine StepFault} t (Err (Refused (NoJob n j (length s.disk)))) (Ok (node_gave m (event.Disk n j) [] n (node_step (node_setting m n) s (back.Disk j))))) job
     ∙ ap Ok (sym (node_there m (event.Disk n j) [] n at (back.Disk j) s le is h))
-
--- ---- a node that is closed
-
--- it is, where another one is open
-pub drained_is : (m : Machine) (n node : ℕ) → is_no_node m.config.nodes n ≡ false → node ≡ n → has_other_open m.front.dispatch.books.loads node ≡ true
-    → drained m n ≡ Ok (front_acts m (event.Drain n) [] (input.Drain node))
-unfolding drained
-drained_is m n node there same other =
-    let done : Result Machine StepFault = Ok (front_acts m (event.Drain n) [] (input.Drain n)) in
-    let others = has_other_open m.front.dispatch.books.loads in
-    ap (λ (t : Bool). cond {A = Result Machine StepFault} t (Err (Refused (NoNode n m.config.nodes))) (cond (others n) done (Err (Refused (LastNode n))))) there
-    ∙ ap (λ (t : Bool). cond {A = Result Machine StepFault} t done (Err (Refused (LastNode n)))) (ap others (sym same) ∙ other)
-    ∙ ap (λ (k : ℕ). Ok (front_acts m (event.Drain n) [] (input.Drain k))) (sym same)
-
--- it is not, where it is the last
-pub last_stays : (m : Machine) (n node : ℕ) → is_no_node m.config.nodes n ≡ false → node ≡ n → has_other_open m.front.dispatch.books.loads node ≡ false → drained m n ≡ Err (Refused (LastNode n))
-unfolding drained
-last_stays m n node there same other =
-    let done : Result Machine StepFault = Ok (front_acts m (event.Drain n) [] (input.Drain n)) in
-    let others = has_other_open m.front.dispatch.books.loads in
-    ap (λ (t : Bool). cond {A = Result Machine StepFault} t (Err (Refused (NoNode n m.config.nodes))) (cond (others n) done (Err (Refused (LastNode n))))) there
-    ∙ ap (λ (t : Bool). cond {A = Result Machine StepFault} t done (Err (Refused (LastNode n)))) (ap others (sym same) ∙ other)

@@ -27,12 +27,6 @@ pub fn drain(machine: &mut Machine, alloc: Global, n: u32) -> Result<(), StepFau
     if !machine.front.dispatch.loads().has_other_open(node) {
         return Err(StepFault::Refused(Refusal::LastNode(n as u8)));
     }
-    front_acts(
-        machine,
-        alloc,
-        Event::Drain(n),
-        None,
-        FrontIn::Drain(node),
-    )?;
+    front_acts(machine, alloc, Event::Drain(n), None, FrontIn::Drain(node))?;
     Ok(())
 }
