@@ -1,4 +1,4 @@
-use Rattle.std.proofs.Common.{◌≡◌, ◌≤◌, Option, ℕ, true, false, None, Some, refl, sym, ap, subst, ◌∙◌, arith}
+use Rattle.std.proofs.Common.{◌≡◌, ◌≤◌, Option, ℕ, None, Some, refl, sym, ap, subst, ◌∙◌, arith}
 use Rattle.std.specs.FinMap.{get-empty}
 use Rattle.std.specs.Ordering.{nat_cmp}
 use Rattle.lard_law_view.specs.Prelude.{FirstChoice, LaterChoice, first_choice, home, home_of, later_choice, tally_start}
@@ -91,12 +91,3 @@ returns-clause-closed_home_joins c h =
 pub returns-clause-stays_at_a_closed_home : goal.returns-clause-stays_at_a_closed_home
 returns-clause-stays_at_a_closed_home c =
     (first-goes, ((refl, refl), ((1, its-home, sym later-stays-there, omega arith, omega arith, (let none = no-share-is-open in omega (arith, none))), tt)))
-
-pub returns-clause-fourth_of_three_is_closed : goal.returns-clause-fourth_of_three_is_closed
-returns-clause-fourth_of_three_is_closed c h = let no : false ≡ true = h.0.0 in cc
-
-pub returns-clause-closed_once_more : goal.returns-clause-closed_once_more
-returns-clause-closed_once_more c h = let no : false ≡ true = h.1.0.0 in cc
-
-pub returns-clause-last_node_is_closed : goal.returns-clause-last_node_is_closed
-returns-clause-last_node_is_closed c h = let no : false ≡ true = h.1.1.0.1 in cc
