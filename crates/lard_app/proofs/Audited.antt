@@ -4,7 +4,7 @@ use Rattle.lard_audit_run.specs.declared.verdict.Verdict.{Verdict}
 use Rattle.lard_audit_run.specs.declared.verdict.Verdict.TheVariants as verdict
 use Rattle.lard_audit_run.specs.Runs as runs
 use Rattle.lard_app.specs.declared.status.Status.{Status}
-use Rattle.lard_app.specs.declared.status.Status.TheVariants.{Usage, ReadFault, WriteFault}
+use Rattle.lard_app.specs.declared.status.Status.TheVariants.{Usage, ReadFault}
 use Rattle.lard_app.specs.Audit.{Audits, IsAuditSettled, audit_status}
 use Rattle.lard_app.specs.Replay.{EndsCount}
 

@@ -1,12 +1,12 @@
 -- A lab's ends are statuses of their own.
-use Rattle.std.proofs.Common.{◌≡◌, inl, inr, ℕ, List, Option, Some, None, refl, sym, ap, ◌∙◌, subst}
+use Rattle.std.proofs.Common.{◌≡◌, inl, inr, ℕ, List, Option, Some, None, refl, sym, ap, ◌∙◌}
 use Rattle.lard_lab.specs.declared.policy.Policy.{Policy}
 use Rattle.lard_lab_run.specs.declared.end.LabEnd.{LabEnd}
 use Rattle.lard_lab_run.specs.declared.end.LabEnd.TheVariants as end
 use Rattle.lard_lab_run.specs.Run.{IsSettledLab}
 use Rattle.lard_lab_run.specs.Trial as trial
 use Rattle.lard_app.specs.declared.status.Status.{Status}
-use Rattle.lard_app.specs.declared.status.Status.TheVariants.{Usage, ReadFault, NoMemory}
+use Rattle.lard_app.specs.declared.status.Status.TheVariants.{Usage, ReadFault}
 use Rattle.lard_app.specs.Lab.{IsLabSettled, Labs, lab_status}
 use Rattle.lard_app.specs.Replay.{EndsCount}
 

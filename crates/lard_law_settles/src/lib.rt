@@ -50,8 +50,8 @@ pub fn settles_take_rounds()
     ensures rounds { RunsTakeRounds }
 {}
 
-/// The folds of a journal, as who owns a connection, who is admitted, the loads, and what was written, served and accepted, say the same of
-/// it with its settles written out.
+/// The folds of a journal, as who owns a connection, who is admitted, the loads, which nodes are closed, and what was written, served and
+/// accepted, say the same of it with its settles written out.
 pub fn written_out_tells_the_same()
     ensures same { WrittenOutTellsTheSame }
 {}

@@ -1,6 +1,5 @@
 -- What the audit's command says, in the statuses of a run.
-use Rattle.std.proofs.Common.{◌≡◌, sym, ap, ◌∙◌, subst}
-use Rattle.lard_audit_run.specs.declared.verdict.Verdict.{Verdict}
+use Rattle.std.proofs.Common.{sym, ap, ◌∙◌, subst}
 use Rattle.lard_app.specs.declared.status.Status.{Status}
 use Rattle.lard_app.specs.Audit.{IsAuditSettled, audit_status}
 use Rattle.lard_app.specs.Replay.{EndsCount}

@@ -1,5 +1,5 @@
 -- What the lab's command says, in the statuses of a run.
-use Rattle.std.proofs.Common.{◌≡◌, refl, sym, ap, ◌∙◌, subst}
+use Rattle.std.proofs.Common.{sym, ap, ◌∙◌, subst}
 use Rattle.lard_app.specs.declared.status.Status.{Status}
 use Rattle.lard_app.specs.Lab.{IsLabSettled, lab_status}
 use Rattle.lard_app.specs.Replay.{EndsCount}
