@@ -136,7 +136,8 @@ module _ (n bytes : ℕ) (s : Progress) (k : Knows n bytes s) (line : List ℕ) 
     refused (why.File (file_fault.TooMany m)) u = file-refused (file_fault.TooMany m) u
     refused (why.File (file_fault.TooMuch m)) u = file-refused (file_fault.TooMuch m) u
     refused (why.File file_fault.NoMemory) u = absurd u.3
-    refused (why.Untimely reason) u = stopped_by u.0 (s.machine, fault.Refused reason) u.1 (untimely-stops s.machine k.keeps.written k.keeps.checked u.0 reason u.2)
+    refused (why.Untimely reason) u =
+        stopped_by u.0 (s.machine, fault.Refused reason) u.1 (untimely-stops s.machine k.keeps.written k.keeps.checked u.0 reason u.2)
     refused why.NoFile u = absurd u
     refused (why.NotOpen number) u = absurd u
     refused (why.Broken rule) u = absurd u

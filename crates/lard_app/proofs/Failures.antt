@@ -192,7 +192,8 @@ module _ (m : Machine) (t : Told m) where
   drained-fault : (n : ℕ) (f : StepFault) → drained m n ≡ Err f → IsFault m (event.Drain n) f
   unfolding drained
   drained-fault n f is = go (is_no_node m.config.nodes n) refl is where
-    of-there : is_no_node m.config.nodes n ≡ false → (b : Bool) → has_other_open m.front.dispatch.books.loads n ≡ b → closes n b ≡ Err f → IsFault m (event.Drain n) f
+    of-there : is_no_node m.config.nodes n ≡ false → (b : Bool) → has_other_open m.front.dispatch.books.loads n ≡ b → closes n b ≡ Err f
+        → IsFault m (event.Drain n) f
     of-there there true some h = cc
     of-there there false none h =
         let within = is_there_node m.config.nodes n there in

@@ -20,7 +20,8 @@ not-open : (b : Bool) (k n : ℕ) → (b && not (nat_eq k n)) ≡ false → k �
 not-open true k n none other = absurd (true≢false (sym (ap not (other_number k n other)) ∙ none))
 not-open false k n none other = refl
 
-pub none-open : (is_open : ℕ → Bool) (n a many : ℕ) → any_other is_open n (range_with_len a many) ≡ false → (k : ℕ) → a ≤ k → k < a + many → k ≢ n → is_open k ≡ false
+pub none-open : (is_open : ℕ → Bool) (n a many : ℕ) → any_other is_open n (range_with_len a many) ≡ false → (k : ℕ) → a ≤ k → k < a + many → k ≢ n
+    → is_open k ≡ false
 none-open is_open n a zero none k low high other = absurd (omega (arith, low, high))
 none-open is_open n a (suc many) none k low high other =
     let both = or_parts (is_open a && not (nat_eq a n)) (any_other is_open n (range_with_len (a + 1) many)) (sym (first-or is_open n a (range_with_len (a + 1) many)) ∙ none) in
@@ -34,7 +35,8 @@ first-none is_open n k closed = by_number ((is_open k && not (nat_eq k n)) ≡ f
     (λ same. and_right (is_open k) (not (nat_eq k n)) (ap (λ j. not (nat_eq k j)) (sym same) ∙ ap not (same_number k)))
     (λ apart. and_left (is_open k) (not (nat_eq k n)) (closed apart))
 
-pub all-closed : (is_open : ℕ → Bool) (n a many : ℕ) → ((k : ℕ) → a ≤ k → k < a + many → k ≢ n → is_open k ≡ false) → any_other is_open n (range_with_len a many) ≡ false
+pub all-closed : (is_open : ℕ → Bool) (n a many : ℕ) → ((k : ℕ) → a ≤ k → k < a + many → k ≢ n → is_open k ≡ false)
+    → any_other is_open n (range_with_len a many) ≡ false
 all-closed is_open n a zero closed = refl
 all-closed is_open n a (suc many) closed =
     first-or is_open n a (range_with_len (a + 1) many)

@@ -118,7 +118,8 @@ abbrev Stops : Machine → ℕ → Event → Status → Type 0
 Stops m line e status = (stop : Stop) × (event_step m e ≡ Err stop) × (ended_by line stop.1 ≡ status)
 
 event-stops : (m : Machine) → IsFit m → (line : ℕ) (e : Event) (status : Status) → EndsEvent m line e status → Stops m line e status
-event-stops m fit line e (Limit number v) u = let r = reaches-stop m fit.written fit.checked e v u.1 in ((r.0, fault.Limit v), r.1, ap (λ l. Limit l v) (sym u.0))
+event-stops m fit line e (Limit number v) u =
+    let r = reaches-stop m fit.written fit.checked e v u.1 in ((r.0, fault.Limit v), r.1, ap (λ l. Limit l v) (sym u.0))
 event-stops m fit line e (Refused number cause) u = absurd u
 event-stops m fit line e Done u = absurd u
 event-stops m fit line e Usage u = absurd u

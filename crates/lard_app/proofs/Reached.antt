@@ -55,7 +55,8 @@ module _ (config : Config) (files : List (List ℕ × List ℕ)) (m : Machine) (
       sym (ap (λ J. client_of c (own c J)) w.journal) ∙ folded ∙ sym (ap client_at (is-kept (λ q. table.get q.clients c)))
 
   closed-told : (n : ℕ) → is_node_closed w.plain.journal n ≡ is_node_closed m.journal n
-  closed-told n = sym (same-of (node_closed_step n) (record { events = λ a i k e. refl; inner = λ a i e. refl; settles = λ a i r. refl; settled = λ a r. refl; unsettled = λ a r l. refl }) false)
+  closed-told n =
+      sym (same-of (node_closed_step n) (record { events = λ a i k e. refl; inner = λ a i e. refl; settles = λ a i r. refl; settled = λ a r. refl; unsettled = λ a r l. refl }) false)
 
   nodes-are : config.nodes ≡ m.config.nodes
   nodes-are = ap (λ (c : Config). c.nodes) (sym (config-is config files w.plain w.reached)) ∙ sym (is-kept (λ k. k.config.nodes))

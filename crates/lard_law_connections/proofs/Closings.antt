@@ -8,7 +8,7 @@ use Rattle.lard_base.specs.declared.event.Event.TheVariants as event
 use Rattle.lard_journal.specs.declared.rec.Rec.TheVariants as rec
 use Rattle.lard_law_connections.specs.Closings.{ClosesByDrain, MustClose, SomeNodeStays, closed_in, due_to_close, to_close}
 use Rattle.lard_law_connections.proofs.Calm.{Allows, first-calm, first_rows, gifts-calm, last-calm, last_rows, timers-calm, told-journal}
-use Rattle.lard_law_connections.proofs.Happened.{done-happens, ok-same, unrefused}
+use Rattle.lard_law_connections.proofs.Happened.{done-happens, ok-same}
 use Rattle.lard_law_connections.proofs.PolicyCounted.{books-are-told, past-has}
 use Rattle.lard_dispatch.proofs.Chosen.{all-numbers}
 use Rattle.lard_law_connections.proofs.PolicyStanding.{some-stays, told-open}
@@ -98,7 +98,8 @@ drain-rows m i = told-journal (record m { front = (front_drains m.front i).0 }) 
     ∙ ap (λ (rs : List Rec). m.journal ++ rec.Event (m.events + 1) (event.Drain i) ∷ rs) (append-nil (closed_note m.front.dispatch i))
 
 -- a drain closes its node where it is open
-drain-closes : (m : Machine) (i : ℕ) → is_open m.front.dispatch.books.loads i ≡ not (is_node_closed m.journal i) → closed_in (closed_note m.front.dispatch i) ≡ to_close m.journal (event.Drain i)
+drain-closes : (m : Machine) (i : ℕ) → is_open m.front.dispatch.books.loads i ≡ not (is_node_closed m.journal i)
+    → closed_in (closed_note m.front.dispatch i) ≡ to_close m.journal (event.Drain i)
 drain-closes m i open_ = ap (λ b. closed_in (cond b (rec.Closed i ∷ []) [])) open_ ∙ go (is_node_closed m.journal i) where
   go : (b : Bool) → closed_in (cond (not b) (rec.Closed i ∷ []) []) ≡ cond b [] (i ∷ [])
   go true = refl
@@ -106,7 +107,8 @@ drain-closes m i open_ = ap (λ b. closed_in (cond b (rec.Closed i ∷ []) [])) 
 
 module _ (config : Config) (files : List (List ℕ × List ℕ)) (checked : config_check config ≡ Ok tt) where
   -- the nodes that the front end has open are those that were not closed
-  pub open-so : (m : Machine) → IsReached config files m → (i : ℕ) → IsIn i (numbers config.nodes) → is_open m.front.dispatch.books.loads i ≡ not (is_node_closed m.journal i)
+  pub open-so : (m : Machine) → IsReached config files m → (i : ℕ) → IsIn i (numbers config.nodes)
+      → is_open m.front.dispatch.books.loads i ≡ not (is_node_closed m.journal i)
   open-so m r i within =
       ap (λ t. is_open t i) (books-are-told config files m checked r).0
       ∙ ap (list_any (nat_eq i)) (told-open config m.journal)
@@ -126,7 +128,8 @@ module _ (config : Config) (files : List (List ℕ × List ℕ)) (checked : conf
 
   pub closings-kept : (m : Machine) → IsReached config files m → AreLawful MustClose m.journal
   closings-kept = carried-keep config files (λ k. AreLawful MustClose k.journal) (refl, tt) step where
-    step : (k n : Machine) (e : Event) → IsOn config files k → AreLawful MustClose k.journal → HasRule e → machine_step k e ≡ Ok n → AreLawful MustClose n.journal
+    step : (k n : Machine) (e : Event) → IsOn config files k → AreLawful MustClose k.journal → HasRule e → machine_step k e ≡ Ok n
+        → AreLawful MustClose n.journal
     step k n e on h rule is =
         let after : IsAfter k e n = step-after k on.view e n rule is in
         let closes : closed_in after.step ≡ to_close k.journal e = step-closes k n on after.step after.is e is (step-any k on.view (AddsNone k) (any-none k) e n rule is) in

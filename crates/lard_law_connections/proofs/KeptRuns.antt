@@ -4,7 +4,6 @@ use Rattle.lard_law_view.specs.Prelude.{ClientRules, Config, Conn, ControlBlock,
 use Rattle.lard_law_view.proofs.EachNode.{NodeComes, each-node}
 use Rattle.lard_law_view.proofs.EachFront.{admission, each-front}
 use Rattle.lard_law_view.proofs.EachClient.{each-client}
-use Rattle.lard_base.specs.declared.event.Event.TheVariants as event
 use Rattle.lard_law_connections.specs.Kept.{IsKeptByStage, FrontKeeps, NodeKeepsMessages}
 use Rattle.lard_law_connections.specs.KeptLaws.{AnyNode, ConnectionsAreKept}
 use Rattle.lard_law_connections.proofs.KeptFronts as front_keeps

@@ -72,7 +72,8 @@ pub record HasCalls (config : Config) (m : Machine) : Type 0 where
 
 stays-closed : (n : ℕ) (rs : List Rec) → fold (node_closed_step n) true rs ≡ true
 stays-closed n [] = refl
-stays-closed n (rec.Closed m ∷ rs) = cond_both (nat_eq m n) true true (λ b. fold (node_closed_step n) b rs ≡ true) (λ t. stays-closed n rs) (λ t. stays-closed n rs)
+stays-closed n (rec.Closed m ∷ rs) =
+    cond_both (nat_eq m n) true true (λ b. fold (node_closed_step n) b rs ≡ true) (λ t. stays-closed n rs) (λ t. stays-closed n rs)
 stays-closed n (r ∷ rs) = stays-closed n rs
 
 -- none was closed before
@@ -100,7 +101,8 @@ none-closing (r ∷ rs) none = (tt, none-closing rs none)
 
 -- where none is closed at the end, none is in between
 behind-closing : (J rs : List Rec) → NoneIsClosed (J ++ rs) → Each IsNoClosing rs
-behind-closing J rs none = none-closing rs (λ n. ap (λ b. fold (node_closed_step n) b rs) (sym (before-closed J rs none n)) ∙ sym (fold-append (node_closed_step n) false J rs) ∙ none n)
+behind-closing J rs none =
+    none-closing rs (λ n. ap (λ b. fold (node_closed_step n) b rs) (sym (before-closed J rs none n)) ∙ sym (fold-append (node_closed_step n) false J rs) ∙ none n)
 
 rising-closing : (r : Rec) → IsRising r → IsNoClosing r
 rising-closing (rec.Closed n) h = h
@@ -119,7 +121,8 @@ module _ (config : Config) (files : List (List ℕ × List ℕ)) (checked : conf
   }
 
   -- what is so of each record behind a journal is so of the notes
-  notes-are : (P : Rec → Type 0) (m : Machine) (e : Event) (t : FrontState) (o : Out) → Each P (first_rows (record m { front = t }) e ++ o.notes ++ last_rows (record m { front = t }) Front o) → Each P o.notes
+  notes-are : (P : Rec → Type 0) (m : Machine) (e : Event) (t : FrontState) (o : Out)
+      → Each P (first_rows (record m { front = t }) e ++ o.notes ++ last_rows (record m { front = t }) Front o) → Each P o.notes
   notes-are P m e t o all =
       let w : Machine = record m { front = t } in
       each-behind P (first_rows w e) o.notes (each-before P (first_rows w e ++ o.notes) (last_rows w Front o) all)
@@ -179,25 +182,29 @@ module _ (config : Config) (files : List (List ℕ × List ℕ)) (checked : conf
     pub clear : NoneIsClosed past → NoneIsClosed state.journal
 
   at-state : (m : Machine) → IsReached config files m → HasNoMore m.journal
-  at-state m r = record { state = m; reached = r; clear = λ none. none; below = subst (λ (t : Tally). IsBelow t (loads_in m)) (books-are-told config files m checked r).0 (below-same (loads_in m)) }
+  at-state m r =
+      record { state = m; reached = r; clear = λ none. none; below = subst (λ (t : Tally). IsBelow t (loads_in m)) (books-are-told config files m checked r).0 (below-same (loads_in m)) }
 
   abbrev At : List Rec → Rec → Type 0
   At past r = HasNoMore past
 
   module _ (t : Tally) (m : Machine) (reached : IsReached config files m) (same : loads_in m ≡ t) where
     at-one : (past : List Rec) → IsBelow (ledger config past).loads t → (NoneIsClosed past → NoneIsClosed m.journal) → HasNoMore past
-    at-one past below clear = record { state = m; reached = reached; below = subst (λ (u : Tally). IsBelow (ledger config past).loads u) (sym same) below; clear = clear }
+    at-one past below clear =
+        record { state = m; reached = reached; below = subst (λ (u : Tally). IsBelow (ledger config past).loads u) (sym same) below; clear = clear }
 
     abbrev Below : Ledger → Rec → Type 0
     Below k r = IsBelow k.loads t
 
-    then-below : (past : List Rec) (x : Rec) (rs : List Rec) → EachFrom Below (ledger_step (ledger config past) x) rs → EachFrom Below (ledger config (past ++ x ∷ [])) rs
+    then-below : (past : List Rec) (x : Rec) (rs : List Rec) → EachFrom Below (ledger_step (ledger config past) x) rs
+        → EachFrom Below (ledger config (past ++ x ∷ [])) rs
     then-below past x rs h = subst (λ (l : Ledger). EachFrom Below l rs) (sym (fold-append ledger_step (blank_ledger config) past (x ∷ []))) h
 
     -- what falls comes behind the state before
     each-falls : (past rs : List Rec) → (NoneIsClosed past → NoneIsClosed m.journal) → EachFrom Below (ledger config past) rs → EachMay At past rs
     each-falls past [] clear h = tt
-    each-falls past (x ∷ rs) clear h = (at-one past h.0 clear, each-falls (past ++ x ∷ []) rs (λ none. clear (before-closed past (x ∷ []) none)) (then-below past x rs h.1))
+    each-falls past (x ∷ rs) clear h =
+        (at-one past h.0 clear, each-falls (past ++ x ∷ []) rs (λ none. clear (before-closed past (x ∷ []) none)) (then-below past x rs h.1))
 
     -- and what rises comes before the state behind
     each-rises : (past rs : List Rec) → m.journal ≡ past ++ rs → Each IsRising rs → EachFrom Below (ledger config past) rs → EachMay At past rs
@@ -277,10 +284,12 @@ module _ (config : Config) (files : List (List ℕ × List ℕ)) (checked : conf
     room-so n = load-most n (840 * room_of config) (within-the-room config calls.calls calls.may n).1
 
     thresholds-so : IsNearTheThresholds config (ledger config past) past
-    thresholds-so none n = load-most n (840 * (greatest_threshold config + 1)) (near-the-thresholds config calls.calls calls.may (calls.closes (most.clear none)) (greatest_threshold config) (omega arith) (omega arith) (omega arith) n)
+    thresholds-so none n =
+        load-most n (840 * (greatest_threshold config + 1)) (near-the-thresholds config calls.calls calls.may (calls.closes (most.clear none)) (greatest_threshold config) (omega arith) (omega arith) (omega arith) n)
 
     few-so : HasFewConnections config (ledger config past) past
-    few-so none n = let few = few-at-homes config calls.calls calls.may (calls.closes (most.clear none)) n in let less = connections-most n in omega (arith, few, less)
+    few-so none n =
+        let few = few-at-homes config calls.calls calls.may (calls.closes (most.clear none)) n in let less = connections-most n in omega (arith, few, less)
 
     -- no node is high that is not in that state
     highs-less : count_by (λ n. nat_le config.high (connections_told past n)) (tally.numbers config.nodes) ≤ count_by (λ n. nat_le config.high (connections_at (loads_after config calls.calls) n)) (tally.numbers config.nodes)

@@ -165,7 +165,8 @@ module _ (k : FrontSetting) (s : FrontState) (sound : IsFrontSound s) where
 
   drain-calls : (n : ℕ) → MayDrain s (input.Drain n) → Calls (front_drains s n)
   drain-calls n other = go (is_open s.dispatch.books.loads n) refl where
-    go : (b : Bool) → is_open s.dispatch.books.loads n ≡ b → Calls (record s { dispatch = cond b (closed n) s.dispatch }, record nothing_done { notes = cond b (rec.Closed n ∷ []) [] })
+    go : (b : Bool) → is_open s.dispatch.books.loads n ≡ b
+        → Calls (record s { dispatch = cond b (closed n) s.dispatch }, record nothing_done { notes = cond b (rec.Closed n ∷ []) [] })
     go true opened = record {
       calls = Close n ∷ [];
       is = sym (ap (λ b. cond b (closed n) s.dispatch) opened);
@@ -180,4 +181,5 @@ module _ (k : FrontSetting) (s : FrontState) (sound : IsFrontSound s) where
       (gets-keeps s.dispatch (front_env k s c iss.0) (env-of c iss.0) (front_part s c) (sound.tags c) bytes (decoded bytes c ToCluster) (sound.each c)) (gets-fit (front_env k s c iss.0) (front_part s c) bytes (decoded bytes c ToCluster))
   step-calls (input.Message from bytes) may = message-calls from (decoded_message bytes) (message-told bytes)
   step-calls (input.Drain n) may = drain-calls n may
-  step-calls (input.Timer c) may = deed-calls c (front_timer (front_env k s c 0) (front_part s c)) (timer-keeps s.dispatch (front_env k s c 0) (env-of c 0) (front_part s c) (sound.tags c) (sound.each c)) (timer-fits (front_env k s c 0) (front_part s c))
+  step-calls (input.Timer c) may =
+      deed-calls c (front_timer (front_env k s c 0) (front_part s c)) (timer-keeps s.dispatch (front_env k s c 0) (env-of c 0) (front_part s c) (sound.tags c) (sound.each c)) (timer-fits (front_env k s c 0) (front_part s c))

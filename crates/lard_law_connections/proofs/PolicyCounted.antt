@@ -19,7 +19,7 @@ use Rattle.lard_law_connections.proofs.PolicyLoads.{charged}
 use Rattle.lard_law_connections.proofs.PolicyNumbers.{IsNumbered, reached-numbered}
 use Rattle.lard_law_connections.proofs.PolicyOrder.{IsNeither, IsOrdered, aside-neither, between-ordered, none-ordered}
 use Rattle.lard_law_connections.proofs.PolicyServers.{modified, served}
-use Rattle.lard_law_connections.proofs.PolicyStanding.{HasNodes, all-has, blank-has, some-stays, told-open}
+use Rattle.lard_law_connections.proofs.PolicyStanding.{HasNodes, all-has, blank-has, told-open}
 use Rattle.lard_law_connections.proofs.PolicySteps.{StepTells, step-tells}
 use Rattle.lard_law_connections.proofs.PolicyWaiting.{Leaves, asides-idle, between-leaves, idle-leaves, who}
 use Rattle.lard_law_connections.specs.PolicyLine.{IsSublist, waiting, waiting_step}

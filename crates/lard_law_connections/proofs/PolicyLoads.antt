@@ -101,5 +101,5 @@ module _ (cfg : Config) (some : 1 ≤ cfg.nodes) where
   pub charged : (J : List Rec) → HasNodes cfg (blank_ledger cfg) → Each IsNumbered J → EachFrom (May cfg) (blank_ledger cfg) J → IsCharged (fold ledger_step (blank_ledger cfg) J).loads (charges J)
   charged J has numbered may =
       let by : IsCharged (whole (fold ledger_step (blank_ledger cfg) J).loads) (charges J) = subst (λ (t : Tally). IsCharged t (charges J)) (all-loads (blank_ledger cfg) J)
-          (subst (IsCharged (tally_after_all (tally_start cfg.nodes) (calls_of J))) (all-charges [] J) (all_charged cfg.nodes (calls_of J) (all-may (blank_ledger cfg) J has numbered may))) in
+      (subst (IsCharged (tally_after_all (tally_start cfg.nodes) (calls_of J))) (all-charges [] J) (all_charged cfg.nodes (calls_of J) (all-may (blank_ledger cfg) J has numbered may))) in
       record { each = by.each; loads = by.loads; count = by.count; in_range = by.in_range }

@@ -85,7 +85,8 @@ module _ (cfg : Config) (some : 1 ≤ cfg.nodes) (l : Ledger) (has : HasNodes cf
   }
 
   pub one-has : (r : Rec) → May cfg l r → HasNodes cfg (ledger_step l r)
-  one-has (rec.Released c) may = record { nodes = has.nodes; open_nodes = has.open_nodes; some_open = has.some_open; homes = at-nodes-put cfg.nodes l.loads.standings c None has.homes tt; served = has.served }
+  one-has (rec.Released c) may =
+      record { nodes = has.nodes; open_nodes = has.open_nodes; some_open = has.some_open; homes = at-nodes-put cfg.nodes l.loads.standings c None has.homes tt; served = has.served }
   one-has (rec.AssignedFirst c r path n add remove) may =
       let chosen : IsChosen cfg.nodes (record { node = n; add = add; remove = remove }) = first-within path n add remove may.1.1 in record {
         nodes = has.nodes;
@@ -117,7 +118,8 @@ module _ (cfg : Config) (some : 1 ≤ cfg.nodes) (l : Ledger) (has : HasNodes cf
   one-has _ may = has
 
 pub blank-has : (cfg : Config) → config_check cfg ≡ Ok tt → HasNodes cfg (blank_ledger cfg)
-blank-has cfg checked = let sound : IsDispatcherSound (dispatch_begun cfg) = begun-sound cfg checked (some-node cfg checked) in record { nodes = refl; open_nodes = sound.open_nodes; some_open = sound.some_open; homes = sound.at_nodes; served = sound.served }
+blank-has cfg checked =
+    let sound : IsDispatcherSound (dispatch_begun cfg) = begun-sound cfg checked (some-node cfg checked) in record { nodes = refl; open_nodes = sound.open_nodes; some_open = sound.some_open; homes = sound.at_nodes; served = sound.served }
 
 -- ---- a journal
 
@@ -128,7 +130,8 @@ all-has cfg some l (r ∷ rs) has may = all-has cfg some (ledger_step l r) rs (o
 -- ---- which nodes are open
 
 pub equal-turned : (a b : ℕ) → nat_eq a b ≡ nat_eq b a
-equal-turned a b = by_number (nat_eq a b ≡ nat_eq b a) a b (λ e. ap (λ (n : ℕ). nat_eq n b) e ∙ same_number b ∙ sym (ap (nat_eq b) e ∙ same_number b)) (λ n. other_number a b n ∙ sym (other_number b a (λ e. n (sym e))))
+equal-turned a b =
+    by_number (nat_eq a b ≡ nat_eq b a) a b (λ e. ap (λ (n : ℕ). nat_eq n b) e ∙ same_number b ∙ sym (ap (nat_eq b) e ∙ same_number b)) (λ n. other_number a b n ∙ sym (other_number b a (λ e. n (sym e))))
 
 -- the nodes that are open behind a record are those that it does not close
 one-open : (cfg : Config) (ns : List ℕ) (l : Ledger) (was : ℕ → Bool) (r : Rec) → l.loads.open_nodes ≡ filter (λ m. not (was m)) ns
@@ -166,6 +169,7 @@ SomeIn nodes out = (n : ℕ) × (1 ≤ n) × (n ≤ nodes) × (out n ≡ false)
 pub some-stays : (nodes : ℕ) (out : ℕ → Bool) (ns : List ℕ) → AllByRecursion (IsNode nodes) ns → 0 < length (filter (λ n. not (out n)) ns) → SomeIn nodes out
 some-stays nodes out [] all h = absurd (omega (arith, h))
 some-stays nodes out (m ∷ ms) all h = go (out m) refl h (some-stays nodes out ms all.1) where
-  go : (b : Bool) → out m ≡ b → 0 < length (cond (not b) (m ∷ filter (λ n. not (out n)) ms) (filter (λ n. not (out n)) ms)) → (0 < length (filter (λ n. not (out n)) ms) → SomeIn nodes out) → SomeIn nodes out
+  go : (b : Bool) → out m ≡ b → 0 < length (cond (not b) (m ∷ filter (λ n. not (out n)) ms) (filter (λ n. not (out n)) ms))
+      → (0 < length (filter (λ n. not (out n)) ms) → SomeIn nodes out) → SomeIn nodes out
   go true e t more = more t
   go false e t more = (m, all.0.0, all.0.1, e)

@@ -152,7 +152,8 @@ StandingsAreTold = AtEveryMoment (λ cfg l past. (c : ℕ) → (is_in_ledger l c
 
 -- The loads of the ledger are what the charges add up to, and its open nodes are those that were not closed.
 abbrev pub AreLoadsCharged : Config → Ledger → List Rec → Type 0
-AreLoadsCharged cfg l past = ((n : ℕ) → tally.load l.loads n ≡ load_told past n) × (l.loads.nodes ≡ cfg.nodes) × (l.loads.open_nodes ≡ filter (λ n. not (is_node_closed past n)) (numbers cfg.nodes))
+AreLoadsCharged cfg l past =
+    ((n : ℕ) → tally.load l.loads n ≡ load_told past n) × (l.loads.nodes ≡ cfg.nodes) × (l.loads.open_nodes ≡ filter (λ n. not (is_node_closed past n)) (numbers cfg.nodes))
 
 abbrev pub LoadsAreAlwaysCharges : Type 0
 LoadsAreAlwaysCharges = AtEveryMoment AreLoadsCharged
