@@ -5,7 +5,7 @@ use Rattle.std.proofs.lemmas.List.Sums.{fold-append}
 use Rattle.std.specs.List.{fold}
 use Rattle.lard_base.specs.declared.place.Place.{Place}
 use Rattle.lard_base.specs.declared.place.Place.TheVariants.{Front, Node, Client}
-use Rattle.lard_history.specs.Journal.{Tale, about, accepted, accepted_step, assigned, assigned_step, closed_step, epoch_step, event_shuts, fin_sent, fin_step, fin_to, goes_to, has_closed, home_told, home_step, is_cluster, is_in, is_touched, last_epoch, numbers_of, numbers_step, owner, owner_step, reset_step, said_fin, served, served_bytes, served_bytes_step, served_step, tale, tale_step, told_on, touched_step, untold, waits, was_reset, wrote, wrote_step}
+use Rattle.lard_history.specs.Journal.{Assignments, Tale, about, accepted, accepted_step, assigned, assignments, assignments_of, assignments_step, assignments_taken, closed_step, epoch_step, event_shuts, fin_sent, fin_step, fin_to, goes_to, has_closed, home_told, home_step, is_cluster, is_in, is_touched, last_epoch, numbers_of, numbers_step, owner, owner_step, reset_step, said_fin, served, served_bytes, served_bytes_step, served_step, tale, tale_step, told_on, touched_step, untold, waits, was_reset, wrote, wrote_step}
 use Rattle.lard_history.proofs.Each.{Each}
 use Rattle.lard_journal.specs.declared.rec.Rec.{Rec}
 use Rattle.lard_journal.specs.declared.rec.Rec.TheVariants as rec
@@ -70,9 +70,12 @@ module _ (J : List Rec) (c : ℕ) where
   unfolding tale
   home-tale = field_of (λ t. t.home) (home_step c) c (λ t r. refl) untold J
 
-  pub assigned-tale : assigned J c ≡ (tale J c).assigned
+  pub assignments-tale : assignments J c ≡ assignments_of (tale J c)
   unfolding tale
-  assigned-tale = field_of (λ t. t.assigned) (assigned_step c) c (λ t r. refl) untold J
+  assignments-tale = field_of assignments_of (assignments_step c) c (λ t r. refl) untold J
+
+  pub assigned-tale : assigned J c ≡ (tale J c).assigned
+  assigned-tale = ap (λ s. s.list) assignments-tale
 
   pub touched-tale : is_touched J c ≡ (tale J c).touched
   unfolding tale
@@ -105,14 +108,18 @@ other c t (rec.Eof d) n = ap (λ b. record t { has_closed = b }) (or-not t.has_c
 other c t (rec.Opened d isn iss wnd mss) n = ap (λ v. record t { numbers = v }) (cond-not (nat_eq d c) (Some (record { isn = isn; iss = iss })) t.numbers n)
 other c t (rec.Wrote d bytes) n = ap (λ v. record t { wrote = v }) (cond-not (nat_eq d c) (t.wrote ++ bytes) t.wrote n)
 other c t (rec.Accepted d bytes) n = ap (λ v. record t { accepted = v }) (cond-not (nat_eq d c) (t.accepted ++ bytes) t.accepted n)
-other c t (rec.Took place d epoch) n = λ i. record t { owner = cond-not (nat_eq d c) (Some place) t.owner n i; epoch = cond-not (nat_eq d c) epoch.0 t.epoch n i }
+other c t (rec.Took place d epoch) n =
+    let same = cond-not (nat_eq d c) (assignments_taken place (assignments_of t)) (assignments_of t) n in
+    λ i. record t { owner = cond-not (nat_eq d c) (Some place) t.owner n i; epoch = cond-not (nat_eq d c) epoch.0 t.epoch n i; assigned = (same i).list; fresh = (same i).fresh }
 other c t (rec.Gave place d epoch) n = ap (λ v. record t { owner = v }) (cond-not (nat_eq d c) None t.owner n)
 other c t (rec.Waits d) n = ap (λ b. record t { waits = b }) (cond-not (nat_eq d c) true t.waits n)
 other c t (rec.Admitted d) n = λ i. record t { is_in = cond-not (nat_eq d c) true t.is_in n i; waits = cond-not (nat_eq d c) false t.waits n i }
 other c t (rec.Released d) n = λ i. record t { home = cond-not (nat_eq d c) None t.home n i; is_in = cond-not (nat_eq d c) false t.is_in n i }
 other c t (rec.AssignedFirst d r path m add remove) n =
-    λ i. record t { home = cond-not (nat_eq d c) (Some m) t.home n i; assigned = cond-not (nat_eq d c) (t.assigned ++ (path, m) ∷ []) t.assigned n i }
-other c t (rec.AssignedLater d r path m add size queue) n = ap (λ v. record t { assigned = v }) (cond-not (nat_eq d c) (t.assigned ++ (path, m) ∷ []) t.assigned n)
+    let same = cond-not (nat_eq d c) (record { list = t.assigned ++ (path, m) ∷ []; fresh = true }) (assignments_of t) n in
+    λ i. record t { home = cond-not (nat_eq d c) (Some m) t.home n i; assigned = (same i).list; fresh = (same i).fresh }
+other c t (rec.AssignedLater d r path m add size queue) n =
+    ap (λ s. record t { assigned = s.list; fresh = s.fresh }) (cond-not (nat_eq d c) (record { list = t.assigned ++ (path, m) ∷ []; fresh = false }) (assignments_of t) n)
 other c t (rec.Served place d r code size via) n =
     λ i. record t { served = cond-not (nat_eq d c) (t.served + 1) t.served n i; served_bytes = cond-not (nat_eq d c) (t.served_bytes + size) t.served_bytes n i }
 other c t (rec.Reset place d total) n = ap (λ b. record t { was_reset = b }) (cond-not (nat_eq d c) true t.was_reset n)

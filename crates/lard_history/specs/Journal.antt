@@ -1,5 +1,5 @@
 -- What a journal says: folds over its records, the oldest first.
-use Rattle.std.specs.Prelude.{ℕ, ◌+◌, Bool, true, false, ◌||◌, ◌&&◌, List, [], ◌∷◌, ◌++◌, length, take, codes, Option, Some, None, Result, Ok, Err, nat_eq, if◌then◌else◌}
+use Rattle.std.specs.Prelude.{ℕ, ◌+◌, ◌-◌, Bool, true, false, ◌||◌, ◌&&◌, List, [], ◌∷◌, ◌++◌, length, take, codes, Option, Some, None, Result, Ok, Err, nat_eq, if◌then◌else◌}
 use Rattle.std.specs.List.{concat, fold, slice_get}
 use Rattle.lard_answers.specs.Answers.{FilesAt, answers, verdicts}
 use Rattle.lard_base.specs.declared.event.Event.{Event}
@@ -287,14 +287,34 @@ home_step c home _ = home
 abbrev pub home_told : List Rec → ℕ → Option ℕ
 home_told J c = fold (home_step c) None J
 
-abbrev pub assigned_step : ℕ → List (List ℕ × ℕ) → Rec → List (List ℕ × ℕ)
-assigned_step c chosen (rec.AssignedFirst d r path n add remove) = if nat_eq d c then chosen ++ (path, n) ∷ [] else chosen
-assigned_step c chosen (rec.AssignedLater d r path n add size queue) = if nat_eq d c then chosen ++ (path, n) ∷ [] else chosen
-assigned_step c chosen _ = chosen
+-- What was assigned to a connection, each by its path and node, and whether the last of it is a first assignment that no node took.
+pub record Assignments : Type 0 where
+  pub list : List (List ℕ × ℕ)
+  pub fresh : Bool
 
--- the requests of connection c that were assigned, the first and all later ones in order, each by its path and node
+-- all but the last
+abbrev pub without_last : List (List ℕ × ℕ) → List (List ℕ × ℕ)
+without_last chosen = take (length chosen - 1) chosen
+
+-- where the front end takes the connection again, a first assignment that no node took is void
+abbrev pub assignments_taken : Place → Assignments → Assignments
+assignments_taken Front s = record { list = if s.fresh then without_last s.list else s.list; fresh = false }
+assignments_taken (Node n) s = record { list = s.list; fresh = false }
+assignments_taken (Client d) s = s
+
+abbrev pub assignments_step : ℕ → Assignments → Rec → Assignments
+assignments_step c s (rec.AssignedFirst d r path n add remove) = if nat_eq d c then record { list = s.list ++ (path, n) ∷ []; fresh = true } else s
+assignments_step c s (rec.AssignedLater d r path n add size queue) = if nat_eq d c then record { list = s.list ++ (path, n) ∷ []; fresh = false } else s
+assignments_step c s (rec.Took place d epoch) = if nat_eq d c then assignments_taken place s else s
+assignments_step c s _ = s
+
+abbrev pub assignments : List Rec → ℕ → Assignments
+assignments J c = fold (assignments_step c) (record { list = []; fresh = false }) J
+
+-- the requests of connection c that were assigned, the first and all later ones in order, each by its path and node, but for those that
+-- are void
 abbrev pub assigned : List Rec → ℕ → List (List ℕ × ℕ)
-assigned J c = fold (assigned_step c) [] J
+assigned J c = (assignments J c).list
 
 abbrev pub in_step : ℕ → Bool → Rec → Bool
 in_step c was (rec.Admitted d) = if nat_eq d c then true else was
@@ -340,6 +360,7 @@ pub record Tale : Type 0 where
   pub has_closed : Bool
   pub home : Option ℕ
   pub assigned : List (List ℕ × ℕ)
+  pub fresh : Bool
   pub is_in : Bool
   pub waits : Bool
   pub touched : Bool
@@ -358,10 +379,15 @@ untold = record {
   has_closed = false;
   home = None;
   assigned = [];
+  fresh = false;
   is_in = false;
   waits = false;
   touched = false;
 }
+
+-- what it says was assigned
+abbrev pub assignments_of : Tale → Assignments
+assignments_of t = record { list = t.assigned; fresh = t.fresh }
 
 abbrev pub tale_step : ℕ → Tale → Rec → Tale
 tale_step c t r = record {
@@ -376,7 +402,8 @@ tale_step c t r = record {
   fin_sent = fin_step c t.fin_sent r;
   has_closed = closed_step c t.has_closed r;
   home = home_step c t.home r;
-  assigned = assigned_step c t.assigned r;
+  assigned = (assignments_step c (assignments_of t) r).list;
+  fresh = (assignments_step c (assignments_of t) r).fresh;
   is_in = in_step c t.is_in r;
   waits = waits_step c t.waits r;
   touched = touched_step c t.touched r;

@@ -128,7 +128,7 @@ pub use Rattle.lard_cache.specs.Recency.{Recency, after_hit, after_put, brought_
 pub use Rattle.lard_cache.specs.declared.cache.TheConstants.{MAX_CACHED_PATHS}
 pub use Rattle.lard_disk.specs.Jobs.{is_for, job_at, without_job}
 pub use Rattle.lard_disk.specs.declared.disk.Job.{Job}
-pub use Rattle.lard_history.specs.Journal.{Numbers, Tale, about, accepted, accepted_step, acting, acting_at, acting_in, answered_bytes, answered_step, armed_step, assigned, assigned_step, bytes_step, epoch_step, event_shuts, fin_sent, goal_of, goal_step, goes_to, has_closed, home_step, home_told, in_step, is_cluster, is_in, is_kind, is_lost, is_node_closed, is_place, is_running, is_touched, last_epoch, last_event, last_event_step, lost_step, next_answer, next_verdict, node_closed_step, numbers_of, numbers_step, owner, owner_step, packet_bytes, request, reset_step, said_fin, said_to, sent_count, sent_step, served, served_bytes, served_bytes_step, served_step, tale_step, time_of, time_step, told_on, touched_step, untold, was_reset, wrote, wrote_step}
+pub use Rattle.lard_history.specs.Journal.{Numbers, Tale, about, accepted, accepted_step, acting, acting_at, acting_in, answered_bytes, answered_step, armed_step, assigned, assignments, assignments_of, assignments_step, assignments_taken, bytes_step, epoch_step, event_shuts, fin_sent, goal_of, goal_step, goes_to, has_closed, home_step, home_told, in_step, is_cluster, is_in, is_kind, is_lost, is_node_closed, is_place, is_running, is_touched, last_epoch, last_event, last_event_step, lost_step, next_answer, next_verdict, node_closed_step, numbers_of, numbers_step, owner, owner_step, packet_bytes, request, reset_step, said_fin, said_to, sent_count, sent_step, served, served_bytes, served_bytes_step, served_step, tale_step, time_of, time_step, told_on, touched_step, untold, was_reset, wrote, wrote_step}
 unfoldable pub use Rattle.lard_history.specs.Journal.{tale}
 pub use Rattle.lard_history.specs.Laws.{AcceptsOnlyAnswers, ActsInPlace, AreOwn, EachMay, Follows, IsNetwork, IsOwnership, IsSoleSender, IsStep, IsTold, KeepsTime, MayAct, MayInNetwork, MayOwn, MayReset, MaySend, MayTell, MayTime, MayWrite, OwnerSends, ResetsAtTheLimit, TellsTheTruth, ToldTo, WritesWhileOpen, first_place, is_own}
 pub use Rattle.lard_history.specs.Own.{Came, EachRow, Has, Letter, Row, Seen, came_seen, conn_of, event_conn, letter_of, letters_in, named_in, net_of, net_step, one_of, plain, seen_of, seen_on, seen_step, tale_of, whose}
