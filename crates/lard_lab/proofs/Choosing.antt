@@ -18,7 +18,7 @@ use Rattle.lard_lab.specs.Backends.{empty, fed, one_if}
 use Rattle.lard_lab.specs.Desk.{Desk, answer_at, desk_choice, choice_by, chosen_for, is_desk_full, served_by}
 use Rattle.lard_lab.specs.Laws.{GoesTo, PathsKeepTheirNode, ServersAreKept}
 use Rattle.lard_lab.specs.Policy.{hash_of}
-use Rattle.lard_lab.specs.Report.{Request, all_hits, all_requests, assignments, count_true, desk_after, desk_by, desk_requested, desk_with, hits_of, node_chosen, request_in, request_of, subtrace}
+use Rattle.lard_lab.specs.Report.{Request, all_hits, all_requests, lab_assignments, count_true, desk_after, desk_by, desk_requested, desk_with, hits_of, node_chosen, request_in, request_of, subtrace}
 use Rattle.lard_lab.specs.Targets.{target_at, with_target}
 
 -- ---- by hash
@@ -56,11 +56,11 @@ all-behind : {X : Type 0} (P : X → Type 0) (xs ys : List X) → AllByRecursion
 all-behind P [] ys a b = b
 all-behind P (x ∷ xs) ys a b = (a.0, all-behind P xs ys a.1 b)
 
-hash-all : (cfg : Config) (es : List LabEvent) (d : Desk) → IsHashing cfg d → AllByRecursion (Hashes cfg) (assignments d es)
+hash-all : (cfg : Config) (es : List LabEvent) (d : Desk) → IsHashing cfg d → AllByRecursion (Hashes cfg) (lab_assignments d es)
 hash-all cfg [] d h = tt
 hash-all cfg (e ∷ es) d h =
     let one = hash-event cfg d e h in
-    all-behind (Hashes cfg) (request_in d e) (assignments (desk_after d e) es) one.0 (hash-all cfg es (desk_after d e) one.1)
+    all-behind (Hashes cfg) (request_in d e) (lab_assignments (desk_after d e) es) one.0 (hash-all cfg es (desk_after d e) one.1)
 
 pub paths-keep : PathsKeepTheirNode
 paths-keep cfg files es = hash-all cfg es (desk_with Hash cfg files) (record { policy = refl; config = refl })

@@ -27,7 +27,7 @@ use Rattle.lard_lab.specs.Backends.{backend_after, empty, is_hit, keeps, node_af
 use Rattle.lard_lab.specs.Desk.{Desk, desk_assigned, desk_choice, chosen_for, done_with, is_desk_full, is_request_open, later_by, request_passed_over}
 use Rattle.lard_lab.specs.Lab.{State, lab_after, fault_of, load_with_one, outcome_by, path_fault, requested, requested_by, lab_told, request_told}
 use Rattle.lard_lab.specs.Laws.{PassAll, lab_after_all, line_in, told_all}
-use Rattle.lard_lab.specs.Report.{File, Request, all_hits, all_requests, assignments, backend_of, backends_of, count_true, desk_after, desk_by, desk_requested, full_among, hits_of, kept_by, lines_from, node_chosen, peak_of, request_in, request_of, file_size_in, subtrace}
+use Rattle.lard_lab.specs.Report.{File, Request, all_hits, all_requests, lab_assignments, backend_of, backends_of, count_true, desk_after, desk_by, desk_requested, full_among, hits_of, kept_by, lines_from, node_chosen, peak_of, request_in, request_of, file_size_in, subtrace}
 use Rattle.lard_lab.specs.Sound.{IsDeskSound}
 use Rattle.lard_lab.specs.Targets.{target_at}
 use Rattle.lard_lab.specs.Text.{request_line}
@@ -335,8 +335,8 @@ steps files s before peaks (Clock ms) f passes = clock-steps files s before peak
 
 pub record Told (files : List File) (s : State) (before : List Request) (peaks : ℕ → ℕ) (es : List LabEvent) : Type 0 where
   pub config : (lab_after_all s es).desk.config ≡ s.desk.config
-  pub text : told_all s es ≡ lines_from (file_size_in files) s.desk.config.cache before (assignments s.desk es)
-  pub last : Follows files (lab_after_all s es) (before ++ assignments s.desk es) (λ n. max (peaks n) (peak_of n s.desk es))
+  pub text : told_all s es ≡ lines_from (file_size_in files) s.desk.config.cache before (lab_assignments s.desk es)
+  pub last : Follows files (lab_after_all s es) (before ++ lab_assignments s.desk es) (λ n. max (peaks n) (peak_of n s.desk es))
 
 told-more : (files : List File) (s : State) (before : List Request) (peaks : ℕ → ℕ) (e : LabEvent) (es : List LabEvent) → Steps files s before peaks e
     → Told files (lab_after s e) (before ++ request_in s.desk e) (λ n. max (peaks n) (load (desk_after s.desk e).loads n / WHOLE)) es → Told files s before peaks (e ∷ es)
@@ -347,13 +347,13 @@ told-more files s before peaks e es step rest =
       config = rest.config ∙ config;
       text = ap (λ (t : List ℕ). t ++ told_all (lab_after s e) es) step.text
           ∙ ap (λ (t : List ℕ). lines_from (file_size_in files) s.desk.config.cache before rs ++ t)
-          (rest.text ∙ ap (λ (c : Config). lines_from (file_size_in files) c.cache (before ++ rs) (assignments (lab_after s e).desk es)) config
-          ∙ ap (λ (d : Desk). lines_from (file_size_in files) s.desk.config.cache (before ++ rs) (assignments d es)) step.desk)
-          ∙ sym (lines-behind (file_size_in files) s.desk.config.cache before rs (assignments d es));
-      last = repeaked files (lab_after_all (lab_after s e) es) (before ++ (rs ++ assignments d es)) (λ n. max (max (peaks n) (load d.loads n / WHOLE)) (peak_of n d es)) (λ n. max (peaks n) (max (load d.loads n / WHOLE) (peak_of n d es)))
+          (rest.text ∙ ap (λ (c : Config). lines_from (file_size_in files) c.cache (before ++ rs) (lab_assignments (lab_after s e).desk es)) config
+          ∙ ap (λ (d : Desk). lines_from (file_size_in files) s.desk.config.cache (before ++ rs) (lab_assignments d es)) step.desk)
+          ∙ sym (lines-behind (file_size_in files) s.desk.config.cache before rs (lab_assignments d es));
+      last = repeaked files (lab_after_all (lab_after s e) es) (before ++ (rs ++ lab_assignments d es)) (λ n. max (max (peaks n) (load d.loads n / WHOLE)) (peak_of n d es)) (λ n. max (peaks n) (max (load d.loads n / WHOLE) (peak_of n d es)))
           (λ n. omega arith)
-          (subst (λ (xs : List Request). Follows files (lab_after_all (lab_after s e) es) xs (λ n. max (max (peaks n) (load d.loads n / WHOLE)) (peak_of n d es))) (append_assoc before rs (assignments d es))
-          (subst (λ (x : Desk). Follows files (lab_after_all (lab_after s e) es) (before ++ rs ++ assignments x es) (λ n. max (max (peaks n) (load d.loads n / WHOLE)) (peak_of n x es))) step.desk rest.last));
+          (subst (λ (xs : List Request). Follows files (lab_after_all (lab_after s e) es) xs (λ n. max (max (peaks n) (load d.loads n / WHOLE)) (peak_of n d es))) (append_assoc before rs (lab_assignments d es))
+          (subst (λ (x : Desk). Follows files (lab_after_all (lab_after s e) es) (before ++ rs ++ lab_assignments x es) (λ n. max (max (peaks n) (load d.loads n / WHOLE)) (peak_of n x es))) step.desk rest.last));
     }
 
 pub follows : (files : List File) (es : List LabEvent) (s : State) (before : List Request) (peaks : ℕ → ℕ) → Follows files s before peaks → PassAll s es → Told files s before peaks es

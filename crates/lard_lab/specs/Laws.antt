@@ -13,7 +13,7 @@ use Rattle.lard_lab.specs.declared.targets.Target.{Target}
 use Rattle.lard_lab.specs.Desk.{Desk, answer_at, desk_assigned}
 use Rattle.lard_lab.specs.Lab.{State, lab_after, fault_of, lab_filed, lab_opened, lab_told, totals_text}
 use Rattle.lard_lab.specs.Policy.{hash_of}
-use Rattle.lard_lab.specs.Report.{File, Request, all_hits, all_requests, assignments, backends_of, desk_with, full_among, lab_report, node_chosen, peak_of, file_size_in}
+use Rattle.lard_lab.specs.Report.{File, Request, all_hits, all_requests, lab_assignments, backends_of, desk_with, full_among, lab_report, node_chosen, peak_of, file_size_in}
 use Rattle.lard_lab.specs.Targets.{target_at}
 use Rattle.lard_lab.specs.Text.{lab_heading_line}
 
@@ -57,7 +57,7 @@ TellsTheReport = (policy : Policy) (cfg : Config) (files : List File) (es : List
 -- What is kept and counted of each node is that of its subtrace alone.
 abbrev pub CachesAreApart : Type 0
 CachesAreApart = (policy : Policy) (cfg : Config) (files : List File) (es : List LabEvent) → config_check cfg ≡ Ok tt → PassAll (lab_with policy cfg files) es
-    → let rs : List Request = assignments (desk_with policy cfg files) es in
+    → let rs : List Request = lab_assignments (desk_with policy cfg files) es in
     (lab_after_all (lab_with policy cfg files) es).stores.nodes ≡ backends_of (file_size_in files) cfg rs (λ n. peak_of n (desk_with policy cfg files) es)
 
 -- No more requests are open than there is room for.
@@ -67,7 +67,7 @@ RoomIsKept = (policy : Policy) (cfg : Config) (files : List File) (es : List Lab
 -- Each request was assigned to one node or full, and no more hit than were assigned.
 abbrev pub TotalsAddUp : Type 0
 TotalsAddUp = (policy : Policy) (cfg : Config) (files : List File) (es : List LabEvent) → config_check cfg ≡ Ok tt → PassAll (lab_with policy cfg files) es
-    → let rs : List Request = assignments (desk_with policy cfg files) es in
+    → let rs : List Request = lab_assignments (desk_with policy cfg files) es in
     (length rs ≡ all_requests cfg rs + full_among rs) × (all_hits (file_size_in files) cfg rs ≤ all_requests cfg rs)
 
 -- a request goes to this node, or is full
@@ -77,7 +77,7 @@ GoesTo n (Some m) = m ≡ n
 
 -- By hash all requests for a path that are not full go to one node.
 abbrev pub PathsKeepTheirNode : Type 0
-PathsKeepTheirNode = (cfg : Config) (files : List File) (es : List LabEvent) → AllByRecursion (λ r. GoesTo (1 + hash_of r.0 % cfg.nodes) r.1) (assignments (desk_with Hash cfg files) es)
+PathsKeepTheirNode = (cfg : Config) (files : List File) (es : List LabEvent) → AllByRecursion (λ r. GoesTo (1 + hash_of r.0 % cfg.nodes) r.1) (lab_assignments (desk_with Hash cfg files) es)
 
 -- In basic LARD the node of a target's last request is its server, and the next one goes there unless that is overloaded then.
 pub record ServersAreKept : Type 0 where

@@ -53,9 +53,9 @@ request_in d (Done i) = []
 request_in d (Clock ms) = []
 
 -- the requests of a trace with their nodes, in order, from a desk on
-abbrev pub assignments : Desk → List LabEvent → List Request
-assignments d [] = []
-assignments d (e ∷ es) = request_in d e ++ assignments (desk_after d e) es
+abbrev pub lab_assignments : Desk → List LabEvent → List Request
+lab_assignments d [] = []
+lab_assignments d (e ∷ es) = request_in d e ++ lab_assignments (desk_after d e) es
 
 -- ---- the hits of a node
 
@@ -146,5 +146,5 @@ totals_of size cfg rs peaks = totals_line (length rs) (all_hits size cfg rs) (fu
 unfoldable pub lab_report : Policy → Config → List File → List LabEvent → List ℕ
 lab_report policy cfg files es =
     let d : Desk = desk_with policy cfg files in
-    let rs : List Request = assignments d es in
+    let rs : List Request = lab_assignments d es in
     lab_heading_line policy cfg ++ lines_from (file_size_in files) cfg.cache [] rs ++ totals_of (file_size_in files) cfg rs (λ n. peak_of n d es)
