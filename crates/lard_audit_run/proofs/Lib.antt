@@ -2,6 +2,7 @@ mod Apart
 mod Back
 mod Causes
 pub mod Ending
+mod Fronts
 mod Going
 mod One
 mod Passing

@@ -1,11 +1,11 @@
 -- Which texts are sound reports.
 use Rattle.std.specs.Prelude.{◌≡◌, ◌↔◌, ℕ, ◌<◌, ◌≤◌, ◌^◌, true, List, [], ◌∷◌, ◌++◌, length, Ok}
-use Rattle.std.specs.List.{AllByRecursion}
+use Rattle.std.specs.List.{AllByRecursion, flat_map}
 use Rattle.lard_audit.specs.Sound.{IsSound}
 use Rattle.lard_audit.specs.State.{audit_add_check}
 use Rattle.lard_base.specs.Config.{config_check}
 use Rattle.lard_base.specs.declared.config.Config.{Config}
-use Rattle.lard_journal.specs.Report.{report}
+use Rattle.lard_journal.specs.Report.{rec_line, report}
 use Rattle.lard_journal.specs.declared.rec.Rec.{Rec}
 use Rattle.lard_report.specs.Readable.{IsReadable}
 use Rattle.lard_schedule.specs.Files.{is_file_path}
@@ -40,3 +40,9 @@ RecordsAreCounted = (text : List ℕ) (r : IsSoundReport text) → length text �
 -- a text is one report: of one configuration, one list of files and one of records
 abbrev pub IsOneReport : Type 0
 IsOneReport = (text : List ℕ) (r s : IsSoundReport text) → (r.config ≡ s.config) × (r.files ≡ s.files) × (r.journal ≡ s.journal)
+
+-- The front of a sound report that ends behind the line of a record, or before all of them, is a sound report of the records so far: so the
+-- report of a run that still goes on can be audited as far as it is there.
+abbrev pub FrontsAreSound : Type 0
+FrontsAreSound = (text : List ℕ) (r : IsSoundReport text) (before behind : List Rec) → r.journal ≡ before ++ behind
+    → (text ≡ report r.config r.files before ++ flat_map rec_line behind) × ((front : IsSoundReport (report r.config r.files before)) × (front.journal ≡ before))
