@@ -1,7 +1,7 @@
 -- By which way each content came, and in which order requests are assigned, in words of the journal.
-use Rattle.std.specs.Prelude.{◌≡◌, ◌≢◌, ℕ, false, List, [], ◌∷◌, ◌++◌, length, map, take, Option, Some, None, Ok}
+use Rattle.std.specs.Prelude.{◌≡◌, ◌≢◌, ℕ, Bool, false, List, [], ◌∷◌, ◌++◌, length, map, take, Option, Some, None, Ok}
 use Rattle.std.specs.List.{slice_get}
-use Rattle.lard_law_view.specs.Prelude.{Body, EachMay, FilesAt, Front, IsPrefix, Message, Node, Place, Rec, Verdict, Via, and_path, assigned, decoded_message, good_path, goods, is_touched, served, verdicts, wrote}
+use Rattle.lard_law_view.specs.Prelude.{Body, EachMay, FilesAt, Front, IsPrefix, Message, Node, Place, Rec, Verdict, Via, and_path, assigned, assignments, decoded_message, good_path, goods, home_told, is_touched, served, verdicts, wrote}
 use Rattle.lard_base.specs.declared.place.Via.TheVariants as via
 use Rattle.lard_journal.specs.declared.rec.Rec.TheVariants as rec
 use Rattle.lard_law_connections.specs.Offers.{WasSentBetween}
@@ -9,14 +9,17 @@ use Rattle.lard_message.specs.declared.message.Body.TheVariants as body
 
 -- ---- what is told of a connection's requests
 
--- What its client wrote, how many responses were queued, and what was assigned, each by its path and node.
+-- What its client wrote, how many responses were queued, what was assigned, each by its path and node, whether the last of it is a first
+-- assignment that no node took, and the connection's home: the node of its last first assignment, until its admission ended.
 pub record WayMarks : Type 0 where
   pub wrote : List ℕ
   pub served : ℕ
   pub assigned : List (List ℕ × ℕ)
+  pub fresh : Bool
+  pub home : Option ℕ
 
 abbrev pub way_marks : List Rec → ℕ → WayMarks
-way_marks J c = record { wrote = wrote J c; served = served J c; assigned = assigned J c }
+way_marks J c = record { wrote = wrote J c; served = served J c; assigned = assigned J c; fresh = (assignments J c).fresh; home = home_told J c }
 
 -- the paths of those that are for files
 abbrev pub good_paths : FilesAt → List Verdict → List (List ℕ)
@@ -44,16 +47,15 @@ ComesFrom home node via.Disk = node ≡ home
 ComesFrom home node (via.Node from) = (from ≡ node) × (node ≢ home)
 
 -- The response to a good request goes with the next assignment: the k-th good one with the k-th. It is for the path of that request,
--- the response is of the connection's home, which is the node of the first assignment, and its content came from where it was
--- assigned.
+-- the response is of the connection's home, and its content came from where it was assigned.
 pub record GoesWith (files : FilesAt) (m : WayMarks) (path : List ℕ) (place : Place) (way : Via) : Type 0 where
-  pub first : List ℕ × ℕ
-  pub first_is : slice_get m.assigned 0 ≡ Some first
+  pub home : ℕ
+  pub home_is : m.home ≡ Some home
   pub its : List ℕ × ℕ
   pub its_is : slice_get m.assigned (length (paths_answered files m)) ≡ Some its
   pub path_is : its.0 ≡ path
-  pub place_is : place ≡ Node first.1
-  pub comes : ComesFrom first.1 its.1 way
+  pub place_is : place ≡ Node home
+  pub comes : ComesFrom home its.1 way
 
 -- the response to a request that is not good has the place's own content
 abbrev pub ComesAsAssigned : FilesAt → WayMarks → Place → Via → Option (List ℕ) → Type 0

@@ -1,6 +1,6 @@
 -- What holds of one connection between any two steps, as far as the ways of its requests go: what was assigned, what its home's batch
 -- awaits, and what is said of Asks and Tags, agree.
-use Rattle.std.specs.Prelude.{◌≡◌, ◌⊎◌, ℕ, ◌+◌, ◌≤◌, true, List, [], ◌∷◌, ◌++◌, map, Option, Some, None, Ok}
+use Rattle.std.specs.Prelude.{◌≡◌, ◌⊎◌, ℕ, ◌+◌, ◌≤◌, true, false, List, [], ◌∷◌, ◌++◌, map, Option, Some, None, Ok}
 use Rattle.lard_law_view.specs.Prelude.{Body, Conn, EndpointParts, FilesAt, Front, FrontConn, FrontRest, FrontRow, IsPrefix, Letter, Message, Node, NodePart, Part, Place, Stay, Tale, Verdict, decoded_message, front_rest, good_path, is_row_at, named_paths, tale_at, verdicts}
 use Rattle.lard_law_connections.specs.Places.{IsDecided, IsPast}
 use Rattle.lard_laws.specs.WaysUnder.{Assigned, Under}
@@ -10,7 +10,7 @@ use Rattle.lard_history.proofs.Each.{Each}
 use Rattle.lard_message.specs.declared.message.Body.TheVariants as body
 
 abbrev pub marks_of : Tale → WayMarks
-marks_of t = record { wrote = t.wrote; served = t.served; assigned = t.assigned }
+marks_of t = record { wrote = t.wrote; served = t.served; assigned = t.assigned; fresh = t.fresh; home = t.home }
 
 abbrev pub marks_at : Conn → WayMarks
 marks_at x = marks_of (tale_at x)
@@ -44,9 +44,9 @@ StayWays files home m r (Some s) = StayGoes files home m r s
 
 -- ---- the seat
 
--- nothing was assigned, and no good request was answered
-abbrev pub IsUnassigned : FilesAt → WayMarks → Type 0
-IsUnassigned files m = (m.assigned ≡ []) × (paths_answered files m ≡ [])
+-- all that was assigned is answered, and nothing of it may become void
+abbrev pub IsAllAnswered : FilesAt → WayMarks → Type 0
+IsAllAnswered files m = (paths_assigned m ≡ paths_answered files m) × (m.fresh ≡ false)
 
 -- the next request of these bytes is for this path
 pub record BeginsWithRequest (files : FilesAt) (unread : List ℕ) (path : List ℕ) : Type 0 where
@@ -55,17 +55,24 @@ pub record BeginsWithRequest (files : FilesAt) (unread : List ℕ) (path : List 
   pub are : verdicts unread ≡ first ∷ others
   pub good : good_path files first ≡ Some path
 
--- one request was assigned, to this node, and no good one was answered
+-- Behind those that were answered one request was assigned, to this node, which did not take the connection yet.
 pub record IsPlacedOnce (files : FilesAt) (m : WayMarks) (r : FrontRest) (home : ℕ) : Type 0 where
+  pub before : List Assigned
   pub path : List ℕ
-  pub assigned : m.assigned ≡ (path, home) ∷ []
-  pub answered : paths_answered files m ≡ []
+  pub assigned : m.assigned ≡ before ++ (path, home) ∷ []
+  pub fresh : m.fresh ≡ true
+  pub answered : map (λ a. a.0) before ≡ paths_answered files m
   pub asks : r.asks ≡ 0
 
--- It is at this node, which has it or had it, or is on its way there.
+-- This node took it: something was assigned, nothing of it may become void, and its stay goes on, if it lasts.
+pub record IsAtHome (files : FilesAt) (m : WayMarks) (r : FrontRest) (home : ℕ) (o : Option Stay) : Type 0 where
+  pub some : m.assigned ≡ [] → ⊥
+  pub fresh : m.fresh ≡ false
+  pub stay : StayWays files home m r o
+
+-- Its home is this node, which has it or had it, or to which it is on its way.
 abbrev pub IsAway : FilesAt → WayMarks → FrontRest → ℕ → ℕ → NodePart → Type 0
-IsAway files m r home e p =
-    (IsPast e p.row × IsPlacedOnce files m r home) ⊎ (IsDecided e p.row × ((path : List ℕ) × (others : List Assigned) × (m.assigned ≡ (path, home) ∷ others)) × StayWays files home m r p.stay)
+IsAway files m r home e p = (m.home ≡ Some home) × ((IsPast e p.row × IsPlacedOnce files m r home) ⊎ (IsDecided e p.row × IsAtHome files m r home p.stay))
 
 -- one that waits is to be placed for the next request
 abbrev pub WaitsForNext : FilesAt → List ℕ → Option (List ℕ) → Type 0
@@ -73,15 +80,15 @@ WaitsForNext files unread None = Unit {0}
 WaitsForNext files unread (Some path) = BeginsWithRequest files unread path
 
 abbrev pub StageWays : FilesAt → WayMarks → Part → ℕ → FrontConn → Type 0
-StageWays files m p e (stage.Held b) = IsUnassigned files m
-StageWays files m p e (stage.Waiting b) = IsUnassigned files m × WaitsForNext files b.recv.unread (front_rest p.front.rest).target
+StageWays files m p e (stage.Held b) = IsAllAnswered files m
+StageWays files m p e (stage.Waiting b) = IsAllAnswered files m × WaitsForNext files b.recv.unread (front_rest p.front.rest).target
 StageWays files m p e stage.Lent = Unit {0}
 StageWays files m p e (stage.Offering n d) = IsAway files m (front_rest p.front.rest) n e (p.nodes n)
 StageWays files m p e (stage.Moved n d) = IsAway files m (front_rest p.front.rest) n e (p.nodes n)
 StageWays files m p e (stage.Closed last) = Unit {0}
 
 abbrev pub SeatWays : FilesAt → WayMarks → Part → Option FrontRow → Type 0
-SeatWays files m p None = IsUnassigned files m
+SeatWays files m p None = IsAllAnswered files m
 SeatWays files m p (Some row) = StageWays files m p row.epoch.0 row.stage
 
 -- ---- packets
@@ -99,9 +106,9 @@ AskIs files m r o number paths =
 abbrev pub TagIs : FrontRest → ℕ → List ℕ → Type 0
 TagIs r number nodes = (number ≤ r.asks) × (number ≡ r.asks → nodes ≡ r.tag)
 
--- an Offer has what is to be read first
+-- an Offer has what is to be read first, the last that was assigned
 abbrev pub OfferIs : FilesAt → WayMarks → EndpointParts → Type 0
-OfferIs files m parts = (path : List ℕ) × (node : ℕ) × (m.assigned ≡ (path, node) ∷ []) × BeginsWithRequest files parts.unread path
+OfferIs files m parts = (before : List Assigned) × (path : List ℕ) × (node : ℕ) × (m.assigned ≡ before ++ (path, node) ∷ []) × BeginsWithRequest files parts.unread path
 
 -- the front end was in this epoch
 abbrev pub IsBy : ℕ → Option FrontRow → Type 0
@@ -114,7 +121,7 @@ NodeSaysWays files m p n e (body.Ask number queue size paths) =
 NodeSaysWays files m p n e _ = Unit {0}
 
 abbrev pub FrontSaysWays : FilesAt → WayMarks → Part → ℕ → ℕ → Body → Type 0
-FrontSaysWays files m p n e (body.Offer parts) = IsDecided e (p.nodes n).row ⊎ OfferIs files m parts
+FrontSaysWays files m p n e (body.Offer parts) = is_row_at n e p.front.row ≡ true → IsDecided e (p.nodes n).row ⊎ OfferIs files m parts
 FrontSaysWays files m p n e (body.Tag number nodes) = IsBy e p.front.row × (is_row_at n e p.front.row ≡ true → TagIs (front_rest p.front.rest) number nodes)
 FrontSaysWays files m p n e _ = Unit {0}
 
