@@ -37,13 +37,13 @@ module _ (files : FilesAt) (x : Conn) (facts : Facts files x) (n e : ℕ) (r : F
   asks-are b s h = ⊎_elim
       (λ past. absurd (subst (λ (o : Option BackRow). IsPast e o) h.row past.0).1)
       (λ there.
-      let stay : StayWays files n (marks_at x) r (Some s) = subst (StayWays files n (marks_at x) r) h.stay there.2 in
+      let stay : StayWays files n (marks_at x) r (Some s) = subst (StayWays files n (marks_at x) r) h.stay there.1.stay in
       ⊎_elim (λ (q : _). inl q.0) (λ (q : _). inr (q.0, q.2)) stay.asking)
-      away-is
+      away-is.1
 
   -- where an Offer of this epoch is new, no Ask was answered
   pub none-answered : offer_answer e p.row ≡ New → r.asks ≡ 0
-  none-answered new = ⊎_elim (λ past. past.1.asks) (λ there. absurd (not-decided e p.row new there.0)) away-is
+  none-answered new = ⊎_elim (λ past. past.1.asks) (λ there. absurd (not-decided e p.row new there.0)) away-is.1
 
 -- ---- a rule of a node
 

@@ -6,8 +6,7 @@ use Rattle.lard_law_view.proofs.EachClient.{client_seen, each-client}
 use Rattle.lard_law_connections.specs.BytesAgreement.{ConnAgrees, IsTruthful}
 use Rattle.lard_law_connections.specs.Places.{IsDecided, IsPast}
 use Rattle.lard_law_view.proofs.Saying.{NotedAt}
-use Rattle.lard_laws.specs.WaysState.{IsAway, IsPlacedOnce, LetterWays, SeatWays, StageWays, StayWays, marks_at}
-use Rattle.lard_laws.specs.WaysUnder.{Assigned}
+use Rattle.lard_laws.specs.WaysState.{IsAtHome, IsAway, IsPlacedOnce, LetterWays, SeatWays, StageWays, StayWays, marks_at}
 use Rattle.lard_laws.specs.Ways.{WayMarks, good_paths, paths_answered}
 use Rattle.lard_laws.proofs.WaysGoods.{answered-grow, wanted-grow}
 use Rattle.lard_laws.proofs.WaysLetters.{IsSame, assigned-same, carries-same}
@@ -49,20 +48,24 @@ module _ (files : FilesAt) (m : WayMarks) (z : List ℕ) (same : paths_answered 
   stay-more home (Some s) h = record { gone = h.gone; under = h.under; walked = h.walked ∙ sym same; lies = h.lies; asking = h.asking }
 
   away-more : (home e : ℕ) (q : NodePart) → IsAway files m r home e q → IsAway files (more_of m z) r home e q
-  away-more home e q h = ⊎_elim
-      (λ (a : IsPast e q.row × IsPlacedOnce files m r home). inl (a.0, record { path = a.1.path; assigned = a.1.assigned; answered = same ∙ a.1.answered; asks = a.1.asks }))
-      (λ (a : IsDecided e q.row × ((path : List ℕ) × (others : List Assigned) × (m.assigned ≡ (path, home) ∷ others)) × StayWays files home m r q.stay). inr (a.0, a.1, stay-more home q.stay a.2)) h
+  away-more home e q h = (
+      h.0,
+      ⊎_elim
+          (λ (a : IsPast e q.row × IsPlacedOnce files m r home).
+          inl (a.0, record { before = a.1.before; path = a.1.path; assigned = a.1.assigned; fresh = a.1.fresh; answered = a.1.answered ∙ sym same; asks = a.1.asks }))
+          (λ (a : IsDecided e q.row × IsAtHome files m r home q.stay). inr (a.0, record { some = a.1.some; fresh = a.1.fresh; stay = stay-more home q.stay a.1.stay })) h.1,
+  )
 
   stage-more : (e : ℕ) (d : FrontConn) → StageWays files m p e d → StageWays files (more_of m z) p e d
-  stage-more e (stage.Held b) h = (h.0, same ∙ h.1)
-  stage-more e (stage.Waiting b) h = ((h.0.0, same ∙ h.0.1), h.1)
+  stage-more e (stage.Held b) h = (h.0 ∙ sym same, h.1)
+  stage-more e (stage.Waiting b) h = ((h.0.0 ∙ sym same, h.0.1), h.1)
   stage-more e stage.Lent h = tt
   stage-more e (stage.Offering n d) h = away-more n e (p.nodes n) h
   stage-more e (stage.Moved n d) h = away-more n e (p.nodes n) h
   stage-more e (stage.Closed last) h = tt
 
   seat-more : (o : Option FrontRow) → SeatWays files m p o → SeatWays files (more_of m z) p o
-  seat-more None h = (h.0, same ∙ h.1)
+  seat-more None h = (h.0 ∙ sym same, h.1)
   seat-more (Some row) h = stage-more row.epoch.0 row.stage h
 
 -- no more is answered than was asked for

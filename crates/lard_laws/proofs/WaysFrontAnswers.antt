@@ -1,20 +1,20 @@
 -- What the front end answers to nodes, and whom it admits, leaves a connection on its way.
-use Rattle.std.proofs.Common.{◌≡◌, ◌≤◌, ◌<◌, ◌+◌, ◌^◌, ◌==◌, ℕ, suc, Bool, true, false, List, [], ◌∷◌, ◌++◌, map, length, Option, Some, None, inl, inr, ⊎_elim, refl, sym, ap, ◌∙◌, subst, arith, append-nil, append_assoc, eqb-true, eq-eqb}
+use Rattle.std.proofs.Common.{◌≡◌, ◌≤◌, ◌<◌, ◌+◌, ◌^◌, ◌==◌, ◌&&◌, ℕ, Bool, true, false, List, [], ◌∷◌, ◌++◌, map, length, Option, Some, None, inl, inr, ⊎_elim, refl, sym, ap, ◌∙◌, subst, arith, append-nil, append_assoc, eqb-true, eq-eqb}
 use Rattle.std.specs.List.{slice_get}
 use Rattle.std.proofs.lemmas.Bool.{and_from, and_parts}
-use Rattle.std.proofs.lemmas.List.{map-append}
-use Rattle.lard_law_view.specs.Prelude.{Ask, Conn, Did, Epoch, FilesAt, Final, Front, FrontConn, FrontDeed, FrontEnv, FrontPart, FrontRest, FrontRow, IsEarlyAway, IsPrefix, LaterChoice, Move, Node, NodePart, Part, Rec, Seen, Stay, ack_sent, assigned_notes, assigns, by_front, front_does, front_ends, front_rest, front_saying, is_row_at, is_with, named_paths, next_epoch, nothing_said, over_note, tag_sent, taken_by, tale_at}
-use Rattle.lard_law_connections.proofs.BytesFrontMessages.{past-undecided}
-use Rattle.lard_law_connections.specs.Places.{IsDecided, IsOffered, IsPast, Offers, Sits, StageSits, owning}
+use Rattle.std.proofs.lemmas.List.{length-append, length-map, map-append, nil_from_length}
+use Rattle.lard_law_view.specs.Prelude.{Ask, Conn, Did, Epoch, FilesAt, Final, Front, FrontConn, FrontDeed, FrontEnv, FrontPart, FrontRest, FrontRow, IsEarlyAway, IsPrefix, LaterChoice, Move, Node, NodePart, Part, Rec, Seen, Stay, ack_sent, assigned_notes, assignments_taken, assigns, by_front, front_does, front_ends, front_rest, front_saying, is_row_at, is_with, named_paths, next_epoch, nothing_said, over_note, tag_sent, taken_by, tale_at}
+use Rattle.lard_law_connections.specs.Places.{IsDecided, Sits, StageSits, owning}
 use Rattle.lard_law_connections.proofs.PlacesTurns.{IsPlaced, early-at}
-use Rattle.lard_laws.specs.WaysState.{AskIs, FrontSaysWays, IsAway, IsBy, IsPlacedOnce, LetterWays, SeatWays, StageWays, StayAsks, StayWays, given_to, marks_at}
+use Rattle.lard_laws.specs.WaysState.{AskIs, FrontSaysWays, IsAtHome, IsAway, IsBy, LetterWays, SeatWays, StageWays, StayAsks, StayWays, given_to, marks_at}
 use Rattle.lard_laws.specs.WaysUnder.{Assigned}
 use Rattle.lard_laws.specs.Ways.{WayMarks, paths_assigned, paths_wanted}
 use Rattle.lard_laws.proofs.WaysFronting.{front-quiet}
 use Rattle.lard_laws.proofs.WaysGoods.{front-of, next-get}
 use Rattle.lard_laws.proofs.WaysLetters.{Counts, carries-none}
-use Rattle.lard_laws.proofs.WaysMarking.{Rightly, marked}
-use Rattle.lard_laws.proofs.WaysMoving.{Keeps, makes, same-marks, stands-makes}
+use Rattle.lard_laws.proofs.WaysMarking.{Rightly, choosing, chosen, marked}
+use Rattle.lard_laws.proofs.WaysMoments.{taken-front}
+use Rattle.lard_laws.proofs.WaysMoving.{Keeps, decided-home, makes, stands-makes}
 use Rattle.lard_laws.proofs.WaysSpelling.{ReadsTag, epoch-reads, tag-reads}
 use Rattle.lard_rules.specs.Front.{Does, Drops, Says, message}
 use Rattle.lard_handoff_front.specs.declared.row.FrontConn.TheVariants as stage
@@ -25,25 +25,23 @@ use Rattle.lard_rules.proofs.FrontCases.{IsInStage, of-stage}
 -- ---- what an Ask assigns
 
 module _ (files : FilesAt) (c : ℕ) (ask : Ask) where
-  assigned-marked : (m : WayMarks) (r : ℕ) (paths : List (List ℕ)) (choices : List LaterChoice) → marked m (assigned_notes c ask r paths choices) ≡ record m { assigned = m.assigned ++ given_to paths (map (λ c. c.node) choices) }
-  assigned-marked m r [] choices = ap (λ (l : List Assigned). record m { assigned = l }) (sym (append-nil m.assigned))
-  assigned-marked m r (path ∷ paths) [] = ap (λ (l : List Assigned). record m { assigned = l }) (sym (append-nil m.assigned))
-  assigned-marked m r (path ∷ paths) (choice ∷ choices) =
-      assigned-marked (record m { assigned = m.assigned ++ (path, choice.node) ∷ [] }) (r + 1) paths choices
-      ∙ ap (λ (l : List Assigned). record m { assigned = l }) (append_assoc m.assigned ((path, choice.node) ∷ []) (given_to paths (map (λ c. c.node) choices)))
+  assigned-marked : (m : WayMarks) (r : ℕ) (paths : List (List ℕ)) (choices : List LaterChoice) → m.fresh ≡ false
+      → marked m (assigned_notes c ask r paths choices) ≡ record m { assigned = m.assigned ++ given_to paths (map (λ c. c.node) choices) }
+  assigned-marked m r [] choices f = ap (λ (l : List Assigned). record m { assigned = l }) (sym (append-nil m.assigned))
+  assigned-marked m r (path ∷ paths) [] f = ap (λ (l : List Assigned). record m { assigned = l }) (sym (append-nil m.assigned))
+  assigned-marked m r (path ∷ paths) (choice ∷ choices) f =
+      assigned-marked (record m { assigned = m.assigned ++ (path, choice.node) ∷ []; fresh = false }) (r + 1) paths choices refl
+      ∙ (λ i. record m { assigned = append_assoc m.assigned ((path, choice.node) ∷ []) (given_to paths (map (λ c. c.node) choices)) i; fresh = sym f i })
 
   -- the paths behind those that were assigned are the next good ones
   assigned-rightly : (m : WayMarks) (r : ℕ) (paths : List (List ℕ)) (choices : List LaterChoice) → IsPrefix (paths_assigned m ++ paths) (paths_wanted files m) → Rightly files m (assigned_notes c ask r paths choices)
   assigned-rightly m r [] choices h = tt
   assigned-rightly m r (path ∷ paths) [] h = tt
   assigned-rightly m r (path ∷ paths) (choice ∷ choices) h =
-      let next : WayMarks = record m { assigned = m.assigned ++ (path, choice.node) ∷ [] } in (
-        ap (slice_get (paths_wanted files m)) (sym (length-map m.assigned)) ∙ next-get (paths_assigned m) paths (paths_wanted files m) path h,
+      let next : WayMarks = record m { assigned = m.assigned ++ (path, choice.node) ∷ []; fresh = false } in (
+        ap (slice_get (paths_wanted files m)) (sym (length-map m.assigned (λ a. a.0))) ∙ next-get (paths_assigned m) paths (paths_wanted files m) path h,
         assigned-rightly next (r + 1) paths choices (subst (λ (l : List (List ℕ)). IsPrefix l (paths_wanted files m)) (sym (append_assoc (paths_assigned m) (path ∷ []) paths) ∙ ap (λ (l : List (List ℕ)). l ++ paths) (sym (map-append (λ a. a.0) m.assigned ((path, choice.node) ∷ [])))) h),
-      ) where
-        length-map : (xs : List Assigned) → length (map (λ a. a.0) xs) ≡ length xs
-        length-map [] = refl
-        length-map (y ∷ xs) = ap suc (length-map xs)
+      )
 
   over-marked : (m : WayMarks) (b : Bool) (rs : List Rec) → marked m (over_note c b ++ rs) ≡ marked m rs
   over-marked m true rs = refl
@@ -61,6 +59,22 @@ given-front (path ∷ paths) (node ∷ nodes) = let h = given-front paths nodes 
 
 -- ---- where it is
 
+-- it is with one node, in one epoch
+one-alone : (n e i f j d : ℕ) → (j == n && d == e) ≡ true → (j == i && d == f) ≡ true → (i ≡ n) × (f ≡ e)
+one-alone n e i f j d a b =
+    let s = and_parts (j == n) (d == e) a in
+    let t = and_parts (j == i) (d == f) b in
+    (sym (eqb-true j i t.0) ∙ eqb-true j n s.0, sym (eqb-true d f t.1) ∙ eqb-true d e s.1)
+
+with-one : (n e i f : ℕ) (d : FrontConn) → is_with n e d ≡ true → is_with i f d ≡ true → (i ≡ n) × (f ≡ e)
+with-one n e i f (stage.Offering j d) a b = one-alone n e i f j d.0 a b
+with-one n e i f (stage.Moved j d) a b = one-alone n e i f j d.0 a b
+with-one n e i f _ a b = absurd (let no : false ≡ true = a in cc)
+
+at-one : (n e i f : ℕ) (o : Option FrontRow) → is_row_at n e o ≡ true → is_row_at i f o ≡ true → (i ≡ n) × (f ≡ e)
+at-one n e i f None a b = absurd (let no : false ≡ true = a in cc)
+at-one n e i f (Some row) a b = with-one n e i f row.stage a b
+
 module _ (x : Conn) where
   -- where it counts the connection is at this node, in this epoch, which is the front end's
   pub record IsWith (n epoch : ℕ) : Type 0 where
@@ -69,7 +83,6 @@ module _ (x : Conn) where
     pub away : (fs : FilesAt) (k : WayMarks) (q : Part) → q.front.row ≡ Some row → (StageWays fs k q row.epoch.0 row.stage → IsAway fs k (front_rest q.front.rest) n row.epoch.0 (q.nodes n)) × (IsAway fs k (front_rest q.front.rest) n row.epoch.0 (q.nodes n) → StageWays fs k q row.epoch.0 row.stage)
     pub same : row.epoch.0 ≡ epoch
     pub early : IsEarlyAway row.epoch.0
-    pub offers : (i e : ℕ) → Offers i e row.stage → (i ≡ n) × (e ≡ epoch)
 
   pub with-of : (n epoch : ℕ) → IsPlaced x → is_row_at n epoch x.part.front.row ≡ true → IsWith n epoch
   with-of n epoch placed at = go x.part.front.row refl at placed.sits where
@@ -87,7 +100,6 @@ module _ (x : Conn) where
           );
           same = sym sits.1 ∙ when;
           early = early-at x placed row found (stage.Offering i f) at;
-          offers = λ j e o. let h : Offers j e (stage.Offering i f) = subst (Offers j e) at o in (sym h.0 ∙ mine, sym h.1 ∙ when);
         }
     on row found (stage.Moved i f) at sits c =
         let t = and_parts (i == n) (f.0 == epoch) c in
@@ -102,7 +114,6 @@ module _ (x : Conn) where
           );
           same = sym sits.1 ∙ when;
           early = early-at x placed row found (stage.Moved i f) at;
-          offers = λ j e o. absurd (subst (Offers j e) at o);
         }
     on row found (stage.Held b) at sits c = let z : false ≡ true = c in absurd (let f : ⊥ = cc in f)
     on row found (stage.Waiting b) at sits c = let z : false ≡ true = c in absurd (let f : ⊥ = cc in f)
@@ -145,7 +156,7 @@ module _ (env : FrontEnv) (x : Conn) (heads : List Seen) where
         grows = help.owes.grows;
         ask = λ i e number ps c decided h. h (was i e c);
         tag = λ i e number nodes c by h. h (was i e c);
-        offer = λ i e parts said f. inr f;
+        offer = λ i e parts c said f. f (was i e c);
       })
       (λ old. tt) tt
 
@@ -154,9 +165,10 @@ module _ (env : FrontEnv) (x : Conn) (heads : List Seen) where
   pub ends-makes : (from epoch : ℕ) (last : Final) (row : FrontRow) → Goal (Does (front_ends env p from epoch last row (next_epoch row)))
   ends-makes from epoch last row help g =
       let v : Move = front_does x heads (Does (front_ends env p from epoch last row (next_epoch row))) in
-      makes files x v help g m (tt, (tt, tt)) refl g.paths tt
-      (carries-none files m m (same-marks files m m.served) x.part v.part help.owes.grows (λ i e c. let z : false ≡ true = c in cc))
-      (λ old. (front-quiet files m v.part from env.serve.c epoch body.EndedAck (λ f. let z : kind.EndedAck ≡ kind.Offer = f in cc) (λ f. let z : kind.EndedAck ≡ kind.Tag = f in cc), tt)) tt
+      let n : WayMarks = record (choosing m (assignments_taken Front (chosen m))) { home = None } in
+      makes files x v help g n (tt, (tt, tt)) refl (taken-front Front (chosen m) (paths_wanted files m) g.paths) tt
+      (carries-none files m n x.part v.part help.owes.grows (λ i e c. let z : false ≡ true = c in cc))
+      (λ old. (front-quiet files n v.part from env.serve.c epoch body.EndedAck (λ f. let z : kind.EndedAck ≡ kind.Offer = f in cc) (λ f. let z : kind.EndedAck ≡ kind.Tag = f in cc), tt)) tt
 
   -- told again
   pub acks-makes : (from epoch : ℕ) → Goal (Says (front_saying (ack_sent env from epoch)))
@@ -198,10 +210,14 @@ module _ (env : FrontEnv) (x : Conn) (heads : List Seen) where
 
       away-now : (e : ℕ) (q : NodePart) → IsDecided e q.row → StayAsks files (rest.asks + 1) ask.paths q.stay → IsAway files m rest n e q → IsAway files now rest_now n e q
       unfolding now rest_now
-      away-now e q decided asks h = ⊎_elim
-          (λ (a : IsPast e q.row × IsPlacedOnce files m rest n). absurd (past-undecided e q.row a.0 decided))
-          (λ (a : IsDecided e q.row × ((path : List ℕ) × (others : List Assigned) × (m.assigned ≡ (path, n) ∷ others)) × StayWays files n m rest q.stay).
-          inr (decided, (a.1.0, a.1.1 ++ given_to ask.paths (map (λ c. c.node) (env.later ask).choices), ap (λ (l : List Assigned). l ++ given_to ask.paths (map (λ c. c.node) (env.later ask).choices)) a.1.2), stay-now n q.stay asks a.2)) h
+      away-now e q decided asks h =
+          let has : IsAtHome files m rest n q.stay = decided-home files m rest n e q decided h in
+          let given : List Assigned = given_to ask.paths (map (λ c. c.node) (env.later ask).choices) in
+          (h.0, inr (decided, record {
+            some = λ none. has.some (nil_from_length m.assigned (omega (arith, length-append m.assigned given, ap length none)));
+            fresh = has.fresh;
+            stay = stay-now n q.stay asks has.stay;
+          }))
 
       paths-now : IsPrefix (paths_assigned m ++ ask.paths) (paths_wanted files m) → IsPrefix (paths_assigned now) (paths_wanted files now)
       unfolding now
@@ -224,10 +240,11 @@ module _ (env : FrontEnv) (x : Conn) (heads : List Seen) where
           let r_is : front_rest p.rest ≡ rest = ap front_rest there in
           let seat : IsAway files m rest n w.row.epoch.0 (x.part.nodes n) = subst (λ (r : FrontRest). IsAway files m r n w.row.epoch.0 (x.part.nodes n)) r_is ((w.away files m x.part w.found).0 (subst (SeatWays files m x.part) w.found g.seat)) in
           let here : IsDecided w.row.epoch.0 (x.part.nodes n).row = subst (λ (e : ℕ). IsDecided e (x.part.nodes n).row) (sym w.same) decided in
+          let has : IsAtHome files m rest n (x.part.nodes n).stay = decided-home files m rest n w.row.epoch.0 (x.part.nodes n) here seat in
           let c_is : (i e : ℕ) → Counts v.part i e → Counts x.part i e = λ i e c. c in
           makes files x v help g now
           (over-rightly files env.serve.c ask m (env.later ask).over (assigned_notes env.serve.c ask rest.assigned ask.paths (env.later ask).choices) (assigned-rightly files env.serve.c ask m rest.assigned ask.paths (env.later ask).choices asks.1))
-          (over-marked files env.serve.c ask m (env.later ask).over (assigned_notes env.serve.c ask rest.assigned ask.paths (env.later ask).choices) ∙ assigned-marked files env.serve.c ask m rest.assigned ask.paths (env.later ask).choices)
+          (over-marked files env.serve.c ask m (env.later ask).over (assigned_notes env.serve.c ask rest.assigned ask.paths (env.later ask).choices) ∙ assigned-marked files env.serve.c ask m rest.assigned ask.paths (env.later ask).choices has.fresh)
           (paths-now asks.1)
           (subst (SeatWays files now v.part) (sym w.found) ((w.away files now v.part w.found).1 (away-now w.row.epoch.0 (x.part.nodes n) here asks.2 seat)))
           (record {
@@ -239,8 +256,9 @@ module _ (env : FrontEnv) (x : Conn) (heads : List Seen) where
             tag = λ i e number nodes c by was.
                 let le : number ≤ rest.asks = subst (λ (r : FrontRest). number ≤ r.asks) r_is (was (c_is i e c)).0 in
                 (omega (arith, le, next), λ same. absurd (omega (arith, le, next, same)));
-            offer = λ i e parts said f. inl (⊎_elim (λ (a : IsDecided e (x.part.nodes i).row). a)
-                (λ (a : IsOffered i e p.row). let o = w.offers i e (subst (IsOffered i e) w.found a) in subst (λ (f : ℕ). IsDecided f (x.part.nodes i).row) (sym o.1) (subst (λ (j : ℕ). IsDecided epoch (x.part.nodes j).row) (sym o.0) decided)) said);
+            offer = λ i e parts c said f.
+                let o = at-one n epoch i e p.row at (c_is i e c) in
+                inl (subst (λ (f : ℕ). IsDecided f (x.part.nodes i).row) (sym o.1) (subst (λ (j : ℕ). IsDecided epoch (x.part.nodes j).row) (sym o.0) decided));
           })
           (λ old. (tag-says now v.part n epoch ask.number (map (λ c. c.node) (env.later ask).choices) (let e = w.same in let early = w.early in omega (arith, e, early)) (subst (IsBy epoch) (sym w.found) (let e = w.same in omega (arith, e))) refl refl, tt)) tt
 

@@ -1,5 +1,5 @@
 -- What the front end does leaves a connection on its way.
-use Rattle.std.proofs.Common.{◌≡◌, ◌≤◌, ◌^◌, ℕ, true, false, List, [], ◌∷◌, ◌++◌, map, length, take, Option, Some, None, refl, sym, ap, ◌∙◌, subst, append-nil}
+use Rattle.std.proofs.Common.{◌≡◌, ◌≤◌, ◌^◌, ℕ, true, false, cond, List, [], ◌∷◌, ◌++◌, map, length, take, Option, Some, None, refl, sym, ap, ◌∙◌, subst, append-nil}
 use Rattle.lard_law_view.specs.Prelude.{Ask, Client, Conn, ControlBlock, Ending, Epoch, FilesAt, FirstChoice, Front, FrontConn, FrontDeed, FrontEnv, FrontGets, FrontPart, FrontRest, FrontRow, IsConnNumber, IsFrontEnv, IsPrefix, IsStream, IsWord, MayMove, Node, Place, Reading, Said, Seen, Service, Setting, Station, Stream, Talk, Turn, Verdict, after_timer, batch_of, by_front, forwarded, front_begun, front_does, front_fired, front_reads, front_rest, front_rests, front_rule, front_saying, holds, is_row_at, last_words, may_freeze, on_segment, sent_of, serving, serving_settled, spoken, stage_after, tale_at, timed, tombstone, turn_here, verdicts, with_front}
 use Rattle.lard_law_connections.specs.BytesAgreement.{FrontHolds, FrontWaits, IsOpen, IsTruthful, SeatAgrees, StageAgrees}
 use Rattle.lard_law_connections.specs.BytesKeeping.{IsFrontTalk}
@@ -11,9 +11,9 @@ use Rattle.lard_law_connections.proofs.BytesFronts.{frozen-holds}
 use Rattle.lard_law_connections.proofs.BytesHolding.{heard-so}
 use Rattle.lard_law_connections.proofs.BytesReading.{batch-read}
 use Rattle.lard_law_connections.proofs.BytesServing.{So}
-use Rattle.lard_law_connections.specs.Places.{Sits, StageSits, owning}
+use Rattle.lard_law_connections.specs.Places.{Offers, Sits, StageSits, owning}
 use Rattle.lard_law_connections.proofs.PlacesLoops.{settled-is, spoken-to}
-use Rattle.lard_laws.specs.WaysState.{AskIs, BeginsWithRequest, GoesItsWay, IsUnassigned, LetterWays, NodeSaysWays, SeatWays, StageWays, WaitsForNext, marks_at}
+use Rattle.lard_laws.specs.WaysState.{AskIs, BeginsWithRequest, GoesItsWay, IsAllAnswered, LetterWays, NodeSaysWays, SeatWays, StageWays, WaitsForNext, marks_at}
 use Rattle.lard_laws.specs.Ways.{WayMarks}
 use Rattle.lard_laws.proofs.FrontComing.{heard-word}
 use Rattle.lard_laws.proofs.WaysFrontAnswers.{acks-makes, again-makes, assigns-makes, drops-makes, ends-makes, taken-moves}
@@ -26,6 +26,7 @@ use Rattle.lard_rules.specs.Front.{Does, Says, message}
 use Rattle.lard_rules.proofs.FrontBlocks.{segment-keeps, segment-serves, speaks-keep, timer-keeps}
 use Rattle.lard_rules.proofs.FrontTurns.{reads-stop}
 use Rattle.lard_handoff_front.specs.declared.row.FrontConn.TheVariants as stage
+use Rattle.lard_history.specs.Journal.{without_last}
 use Rattle.lard_journal.specs.declared.rec.Rec.TheVariants as rec
 use Rattle.lard_message.specs.declared.kind.Kind.TheVariants as kind
 use Rattle.lard_message.specs.declared.message.Body.TheVariants as body
@@ -65,9 +66,9 @@ module _ (k : Setting) (small : k.stream ≤ 2 ^ 30) (x : Conn) (truth : IsTruth
   number : IsConnNumber x.c → IsConnNumber env.serve.c
   number h = subst IsConnNumber (sym is.number) h
 
-  -- What was read, where nothing was assigned: what it notes is told, and what is left unread begins with the request that is to be placed.
+  -- What was read, where all that was assigned is answered: what it notes is told, and what is left unread begins with the request that is
+  -- to be placed.
   pub record Looked (w : Service) (target : Option (List ℕ)) : Type 0 where
-    pub none : m.assigned ≡ []
     pub looks : Looks env.serve m w
     pub waits : WaitsForNext files w.block.recv.unread target
     pub frozen : (path : List ℕ) → target ≡ Some path → IsFrozen env x w path
@@ -104,11 +105,11 @@ module _ (k : Setting) (small : k.stream ≤ 2 ^ 30) (x : Conn) (truth : IsTruth
     served-is : (n : ℕ) → n ≡ length l.vs → m ≡ record m { served = n }
     served-is n e = ap (λ (i : ℕ). record m { served = i }) (o.tale.served ∙ sym e)
 
-    free-at : (n : ℕ) → n ≡ length l.vs → IsUnassigned files m → IsUnassigned files (record m { served = n })
-    free-at n e h = subst (IsUnassigned files) (served-is n e) h
+    answered-at : (n : ℕ) → n ≡ length l.vs → IsAllAnswered files m → IsAllAnswered files (record m { served = n })
+    answered-at n e h = subst (IsAllAnswered files) (served-is n e) h
 
-    start-looks : (b : ControlBlock) (n : ℕ) → n ≡ length l.vs → IsUnassigned files m → Looks env.serve m (serving b n [])
-    start-looks b n e h = record { noted_so = tt; told = served-is n e; none = (free-at n e h).1 }
+    start-looks : (b : ControlBlock) (n : ℕ) → n ≡ length l.vs → IsAllAnswered files m → Looks env.serve m (serving b n [])
+    start-looks b n e h = record { noted_so = tt; told = served-is n e; answered = answered-at n e h }
 
     -- ---- it holds the connection, or lets it wait
 
@@ -118,12 +119,12 @@ module _ (k : Setting) (small : k.stream ≤ 2 ^ 30) (x : Conn) (truth : IsTruth
     none-counts row stays h (ending.Over last) i f c = let no : false ≡ true = c in cc
 
     -- goes on to be held, or ends
-    holds-makes : (row : FrontRow) (rest : FrontRest) (given : Ending × Turn) (w : Service) → Looks env.serve m w → given.1.notes ≡ w.notes → AllTo (Client env.serve.c) given.1.segments → m.assigned ≡ [] → Keeps files x (front_does x heads (holds p row rest given))
-    holds-makes row rest given w looks notes to none help g =
+    holds-makes : (row : FrontRow) (rest : FrontRest) (given : Ending × Turn) (w : Service) → Looks env.serve m w → given.1.notes ≡ w.notes → AllTo (Client env.serve.c) given.1.segments → Keeps files x (front_does x heads (holds p row rest given))
+    holds-makes row rest given w looks notes to help g =
         turned-makes env x heads (record { part = front_rests p row rest stage.Held given.0; turn = turn_here given.1; calls = [] }) w.count (subst (Rightly files m) (sym notes) looks.noted_so) (ap (marked m) notes ∙ looks.told) g.paths
         (seat given.0) (none-counts row stage.Held (λ b i e c. let no : false ≡ true = c in cc) given.0) to (λ q. tt) help g where
           seat : (e : Ending) → StageWays files (record m { served = w.count }) (with_front x.part (front_rests p row rest stage.Held e)) row.epoch.0 (stage_after stage.Held e)
-          seat (ending.Here b n) = (none, looks.none)
+          seat (ending.Here b n) = looks.answered
           seat (ending.Over last) = tt
 
     -- the next request is unread
@@ -131,13 +132,13 @@ module _ (k : Setting) (small : k.stream ≤ 2 ^ 30) (x : Conn) (truth : IsTruth
     Awaits t b n = WaitsForNext files b.recv.unread t
 
     -- goes on to wait, or ends
-    waits-makes : (row : FrontRow) (rest : FrontRest) (given : Ending × Turn) (w : Service) → Looks env.serve m w → given.1.notes ≡ w.notes → AllTo (Client env.serve.c) given.1.segments → m.assigned ≡ []
+    waits-makes : (row : FrontRow) (rest : FrontRest) (given : Ending × Turn) (w : Service) → Looks env.serve m w → given.1.notes ≡ w.notes → AllTo (Client env.serve.c) given.1.segments
         → StaysWith (Awaits rest.target) given.0 → Keeps files x (front_does x heads (Does (record { part = front_rests p row rest stage.Waiting given.0; turn = turn_here given.1; calls = [] })))
-    waits-makes row rest given w looks notes to none waits help g =
+    waits-makes row rest given w looks notes to waits help g =
         turned-makes env x heads (record { part = front_rests p row rest stage.Waiting given.0; turn = turn_here given.1; calls = [] }) w.count (subst (Rightly files m) (sym notes) looks.noted_so) (ap (marked m) notes ∙ looks.told) g.paths
         (seat given.0 waits) (none-counts row stage.Waiting (λ b i e c. let no : false ≡ true = c in cc) given.0) to (λ q. tt) help g where
           seat : (e : Ending) → StaysWith (Awaits rest.target) e → StageWays files (record m { served = w.count }) (with_front x.part (front_rests p row rest stage.Waiting e)) row.epoch.0 (stage_after stage.Waiting e)
-          seat (ending.Here b n) h = ((none, looks.none), h)
+          seat (ending.Here b n) h = (looks.answered, h)
           seat (ending.Over last) h = tt
 
     -- what was unread before a turn is so behind it
@@ -173,7 +174,7 @@ module _ (k : Setting) (small : k.stream ≤ 2 ^ 30) (x : Conn) (truth : IsTruth
       pub row-looks : (row : FrontRow) (b : ControlBlock) → IsInStage p row (stage.Held b) → Came (front_reads env.serve (heard_reading p b sd)).service (front_reads env.serve (heard_reading p b sd)).target
       row-looks row b at g =
           let fh : FrontHolds l.w l.out l.vs pend b count = truth-at row (stage.Held b) at in
-          let free : IsUnassigned files m = seat-at row (stage.Held b) at g in
+          let free : IsAllAnswered files m = seat-at row (stage.Held b) at g in
           let start : Service = heard_service p b sd in
           let so0 : So env.serve l.w l.out l.vs start [] = heard-so env.serve l.w l.out l.vs talk.says [] b count fh.holds talk.stream sd word in
           let y : Reading = front_reads env.serve (heard_reading p b sd) in
@@ -181,7 +182,6 @@ module _ (k : Setting) (small : k.stream ≤ 2 ^ 30) (x : Conn) (truth : IsTruth
           let stop = reads-stop env.serve start (segment-serves count b sd fh.serves) in
           let looks = reads-look env.serve m l.w l.out l.vs o.tale.wrote talk.most start so0 (start-looks (on_segment b sd).1 count fh.holds.counted free) in
           record {
-            none = free.0;
             looks = looks.0;
             waits = looks.1;
             frozen = λ path e.
@@ -195,10 +195,11 @@ module _ (k : Setting) (small : k.stream ≤ 2 ^ 30) (x : Conn) (truth : IsTruth
       begins-makes : p.row ≡ None → Goal (front_begun env p sd)
       begins-makes found help g =
           let agrees : (l.vs ≡ []) × (pend ≡ []) × (l.out.ended ≡ false) = subst (SeatAgrees l.w l.out l.vs pend l.was_reset x.c x.part) found o.seat in
-          let free : IsUnassigned files m = subst (SeatWays files m x.part) found g.seat in
+          let free : IsAllAnswered files m = subst (SeatWays files m x.part) found g.seat in
           let v : Service = begun_service env sd in
           let zero_is : 0 ≡ length l.vs = sym (ap length agrees.0) in
-          holds-makes begun_row (front_rest None) (spoken env.serve v []) v (record { noted_so = (tt, tt); told = served-is 0 zero_is; none = (free-at 0 zero_is free).1 }) refl (spoken-to env.serve v [] tt) free.0 help g
+          let took : marked m v.notes ≡ m = λ i. record m { assigned = cond (free.1 i) (without_last m.assigned) m.assigned; fresh = sym free.1 i } in
+          holds-makes begun_row (front_rest None) (spoken env.serve v []) v (record { noted_so = (tt, tt); told = took ∙ served-is 0 zero_is; answered = answered-at 0 zero_is free }) refl (spoken-to env.serve v [] tt) help g
 
       by-segment : (bytes : List ℕ) → KeptBySegment env p bytes sd Came Goal
       by-segment bytes = record {
@@ -208,24 +209,24 @@ module _ (k : Setting) (small : k.stream ≤ 2 ^ 30) (x : Conn) (truth : IsTruth
         holds = λ row b w at came help g.
             let looked : Looked w None = came g in
             let done = settled-is env.serve w in
-            holds-makes row (front_rest p.rest) (serving_settled env.serve w) w looked.looks done.notes done.to looked.none help g;
+            holds-makes row (front_rest p.rest) (serving_settled env.serve w) w looked.looks done.notes done.to help g;
         hands = λ row b w path choice at came is help g.
             let looked : Looked w (Some path) = came g in
-            handed-makes env x row w path choice (looked.frozen path refl) heads (number help.number) (early-at x help.placed row at.0 (stage.Held b) at.1) at.0 (sits-at row (stage.Held b) at help.placed).1.1 looked.none help g;
+            handed-makes env x row w path choice (looked.frozen path refl) heads (number help.number) (early-at x help.placed row at.0 (stage.Held b) at.1) at.0 (λ i e o. subst (Offers i e) at.1 o) (sits-at row (stage.Held b) at help.placed).1.1 help g;
         waits = λ row b w path at came is help g.
             let looked : Looked w (Some path) = came g in
             let v : Service = waiting_service env w in
             let more : Looks env.serve m v = record {
               noted_so = rightly-append files m w.notes (rec.Waits env.serve.c ∷ []) looked.looks.noted_so (tt, tt);
               told = marked-append m w.notes (rec.Waits env.serve.c ∷ []) ∙ looked.looks.told;
-              none = looked.looks.none;
+              answered = looked.looks.answered;
             } in
-            waits-makes row (record (front_rest p.rest) { target = Some path }) (spoken env.serve v []) v more refl (spoken-to env.serve v [] tt) looked.none (spoken-waits v [] (Some path) looked.waits) help g;
+            waits-makes row (record (front_rest p.rest) { target = Some path }) (spoken env.serve v []) v more refl (spoken-to env.serve v [] tt) (spoken-waits v [] (Some path) looked.waits) help g;
         stays = λ row b at help g.
             let fh : FrontWaits l.w l.out l.vs pend b count = truth-at row (stage.Waiting b) at in
             let seat = seat-at row (stage.Waiting b) at g in
             let v : Service = heard_service p b sd in
-            waits-makes row (front_rest p.rest) (spoken env.serve v []) v (start-looks (on_segment b sd).1 count fh.0.holds.counted seat.0) refl (spoken-to env.serve v [] tt) seat.0.0
+            waits-makes row (front_rest p.rest) (spoken env.serve v []) v (start-looks (on_segment b sd).1 count fh.0.holds.counted seat.0) refl (spoken-to env.serve v [] tt)
             (spoken-waits v [] (front_rest p.rest).target (segment-keeps (λ r y. WaitsForNext files r.unread (front_rest p.rest).target) (waits-kept files (front_rest p.rest).target) b sd seat.1)) help g;
         forwards = λ row n e at. forwards-makes n e bytes;
         words = λ row last at. tombs-makes (last_words last.reason last sd);
@@ -238,16 +239,16 @@ module _ (k : Setting) (small : k.stream ≤ 2 ^ 30) (x : Conn) (truth : IsTruth
       drops = drops-makes env x heads;
       holds = λ row b at help g.
           let fh : FrontHolds l.w l.out l.vs pend b count = truth-at row (stage.Held b) at in
-          let free : IsUnassigned files m = seat-at row (stage.Held b) at g in
+          let free : IsAllAnswered files m = seat-at row (stage.Held b) at g in
           let v : Service = fired_service p b in
           holds-makes row (front_rest p.rest) (front_fired env (front_rest p.rest) b) v (start-looks (after_timer b) count fh.holds.counted free) refl
-          (spoken-to env.serve v (fired_before env b) (ready-to env.serve (after_timer b) (timed b))) free.0 help g;
+          (spoken-to env.serve v (fired_before env b) (ready-to env.serve (after_timer b) (timed b))) help g;
       stays = λ row b at help g.
           let fh : FrontWaits l.w l.out l.vs pend b count = truth-at row (stage.Waiting b) at in
           let seat = seat-at row (stage.Waiting b) at g in
           let v : Service = fired_service p b in
           waits-makes row (front_rest p.rest) (front_fired env (front_rest p.rest) b) v (start-looks (after_timer b) count fh.0.holds.counted seat.0) refl
-          (spoken-to env.serve v (fired_before env b) (ready-to env.serve (after_timer b) (timed b))) seat.0.0
+          (spoken-to env.serve v (fired_before env b) (ready-to env.serve (after_timer b) (timed b)))
           (spoken-waits v (fired_before env b) (front_rest p.rest).target (timer-keeps (λ r y. WaitsForNext files r.unread (front_rest p.rest).target) (waits-kept files (front_rest p.rest).target) b seat.1)) help g;
       resends = λ row n e at help g. stands-makes files x Front heads (by_front (front_saying (map sent_of p.kept))) tt (λ old. sent-say files m x.part x Front p.kept help.sound.front old) tt help g;
     }
@@ -261,7 +262,7 @@ module _ (k : Setting) (small : k.stream ≤ 2 ^ 30) (x : Conn) (truth : IsTruth
         let alone : FrontHolds l.w l.out l.vs [] b count = record { none = refl; serves = fh.0.serves; holds = fh.0.holds } in
         let next : BeginsWithRequest files b.recv.unread path = subst (WaitsForNext files b.recv.unread) is_target seat.1 in
         handed-makes env x row (serving b count []) path choice (frozen-is (serving b count []) path l.out l.vs alone fh.1 next (start-looks b count fh.0.holds.counted seat.0)) heads (number help.number)
-        (early-at x help.placed row at.0 (stage.Waiting b) at.1) at.0 (sits-at row (stage.Waiting b) at help.placed).1.1 seat.0.0 help g
+        (early-at x help.placed row at.0 (stage.Waiting b) at.1) at.0 (λ i e o. subst (Offers i e) at.1 o) (sits-at row (stage.Waiting b) at help.placed).1.1 help g
 
   -- ---- whatever comes
 

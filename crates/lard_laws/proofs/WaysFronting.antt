@@ -1,21 +1,21 @@
 -- What the front end does leaves a connection on its way.
-use Rattle.std.proofs.Common.{◌≡◌, ◌<◌, ◌≢◌, ◌≤◌, ◌+◌, ◌==◌, ℕ, true, List, [], ◌∷◌, ◌++◌, map, length, take, Option, Some, None, Ok, inl, inr, refl, sym, ap, ◌∙◌, subst, arith, append_assoc, eqb-true}
+use Rattle.std.proofs.Common.{◌≡◌, ◌<◌, ◌≢◌, ◌≤◌, ◌+◌, ◌==◌, ℕ, true, List, [], ◌∷◌, ◌++◌, map, length, take, Option, Some, None, Ok, inl, inr, ⊎_elim, refl, sym, ap, ◌∙◌, subst, arith, append_assoc, eqb-true}
 use Rattle.std.specs.List.{slice_get}
 use Rattle.std.proofs.lemmas.Bool.{and_parts}
+use Rattle.std.proofs.lemmas.List.{length-map, map-append}
 use Rattle.lard_law_view.specs.Prelude.{Body, Client, Conn, Did, EndpointParts, FilesAt, FirstChoice, Front, FrontEnv, FrontPart, FrontRow, FrontTurn, IsConnNumber, IsEarlyHere, IsPrefix, IsStream, Message, Move, Node, Part, Place, Rec, Seen, Service, Stream, Verdict, and_path, decoded_message, front_does, good_path, handed_off, is_row_at, kind_of, letter, may_freeze, next_epoch, parts_of, verdicts, with_front}
 use Rattle.lard_law_connections.specs.BytesAgreement.{FrontHolds}
 use Rattle.lard_law_connections.proofs.BytesMessages.{offers-read}
-use Rattle.lard_law_connections.specs.Places.{ArePast, IsDecided, IsPast}
+use Rattle.lard_law_connections.specs.Places.{ArePast, IsDecided, IsOffered, IsPast, Offers}
 use Rattle.lard_law_connections.proofs.PlacesGrowing.{past-later}
 use Rattle.lard_law_connections.proofs.PlacesHeads.{kinds-same}
 use Rattle.lard_laws.specs.WaysState.{BeginsWithRequest, FrontSaysWays, IsBy, LetterWays, SeatWays, marks_at}
-use Rattle.lard_laws.specs.WaysUnder.{Assigned}
 use Rattle.lard_laws.specs.Ways.{IsNextGood, WayMarks, good_paths, paths_assigned, paths_wanted}
-use Rattle.lard_laws.proofs.WaysGoods.{good-append, prefix-take}
+use Rattle.lard_laws.proofs.WaysGoods.{get-behind, good-append, prefix-take}
 use Rattle.lard_laws.proofs.WaysLetters.{carries-none}
 use Rattle.lard_laws.proofs.WaysLooking.{Looks}
 use Rattle.lard_laws.proofs.WaysMarking.{Rightly, marked, marked-append, rightly-append}
-use Rattle.lard_laws.proofs.WaysMoving.{Keeps, clients-say, makes, same-marks}
+use Rattle.lard_laws.proofs.WaysMoving.{Keeps, clients-say, makes}
 use Rattle.lard_rules.specs.Front.{Does, message}
 use Rattle.lard_handoff_front.specs.declared.row.FrontConn.TheVariants as stage
 use Rattle.lard_history.proofs.Each.{Each}
@@ -49,7 +49,7 @@ module _ (env : FrontEnv) (x : Conn) where
   turned-makes heads did n notes told paths seat none to messages help g =
       let v : Move = front_does x heads (Does did) in
       makes files x v help g (record m { served = n }) notes told paths seat
-      (carries-none files m (record m { served = n }) (same-marks files m n) x.part v.part help.owes.grows none)
+      (carries-none files m (record m { served = n }) x.part v.part help.owes.grows none)
       (λ old. both did.turn.segments did.turn.messages v.part (clients-say files (record m { served = n }) v.part Front env.serve.c did.turn.segments to) (messages v.part)) tt where
         both : (ss ms : List (Place × List ℕ)) (q : Part) → Each (LetterWays files (record m { served = n }) q) (map (letter Front) ss) → Each (LetterWays files (record m { served = n }) q) (map (letter Front) ms)
             → Each (LetterWays files (record m { served = n }) q) (map (letter Front) ss ++ map (letter Front) ms)
@@ -58,7 +58,7 @@ module _ (env : FrontEnv) (x : Conn) where
 
   -- ---- the hand-off
 
-  -- The endpoint is frozen, with its next request unread, and nothing for a file was answered.
+  -- The endpoint is frozen, with its next request unread, and all that was assigned is answered.
   pub record IsFrozen (s : Service) (path : List ℕ) : Type 0 where
     pub w : Stream
     pub out : Stream
@@ -75,25 +75,28 @@ module _ (env : FrontEnv) (x : Conn) where
     pub fronts : IsPrefix (before ++ next.first ∷ others) (verdicts m.wrote)
 
   module _ (row : FrontRow) (s : Service) (path : List ℕ) (choice : FirstChoice) (h : IsFrozen s path) where
-    placed_marks : WayMarks
-    placed_marks = record { wrote = m.wrote; served = s.count; assigned = (path, choice.node) ∷ [] }
+    abbrev placed_marks : WayMarks
+    placed_marks = record m { served = s.count; assigned = m.assigned ++ (path, choice.node) ∷ []; fresh = true; home = Some choice.node }
 
-    -- its path is the first of all
-    wanted-first : (rest : List (List ℕ)) × (paths_wanted files m ≡ path ∷ rest)
-    wanted-first =
+    -- its path stands behind those that were assigned
+    wanted-next : (rest : List (List ℕ)) × (paths_wanted files m ≡ paths_assigned m ++ path ∷ rest)
+    wanted-next =
         let all : List Verdict = verdicts m.wrote in
-        let none : good_paths files h.before ≡ [] =
-        sym (ap (good_paths files) (ap (λ (n : ℕ). take n all) h.counted ∙ prefix-take h.before all (h.next.first ∷ (h.others ++ h.fronts.0), h.fronts.1 ∙ append_assoc h.before (h.next.first ∷ h.others) h.fronts.0))) ∙ h.looks.none in
+        let fronts : all ≡ h.before ++ h.next.first ∷ (h.others ++ h.fronts.0) = h.fronts.1 ∙ append_assoc h.before (h.next.first ∷ h.others) h.fronts.0 in
+        let gone : good_paths files h.before ≡ paths_assigned m =
+        sym (ap (good_paths files) (ap (λ (n : ℕ). take n all) h.counted ∙ prefix-take h.before all (h.next.first ∷ (h.others ++ h.fronts.0), fronts))) ∙ sym h.looks.answered.0 in
         let more : List (List ℕ) = good_paths files (h.others ++ h.fronts.0) in (
           more,
-          ap (good_paths files) (h.fronts.1 ∙ append_assoc h.before (h.next.first ∷ h.others) h.fronts.0)
+          ap (good_paths files) fronts
               ∙ good-append files h.before (h.next.first ∷ (h.others ++ h.fronts.0))
-              ∙ ap (λ (l : List (List ℕ)). l ++ and_path (good_path files h.next.first) more) none
-              ∙ ap (λ (o : Option (List ℕ)). and_path o more) h.next.good,
+              ∙ ap (λ (l : List (List ℕ)). l ++ and_path (good_path files h.next.first) more) gone
+              ∙ ap (λ (o : Option (List ℕ)). paths_assigned m ++ and_path o more) h.next.good,
         )
 
-    next-good : m.assigned ≡ [] → IsNextGood files (record m { served = s.count }) path
-    next-good none = (λ i. slice_get (wanted-first.1 i) (length (none i)))
+    next-good : IsNextGood files (record m { served = s.count }) path
+    next-good =
+        let w = wanted-next in
+        (λ i. slice_get (w.1 i) (sym (length-map m.assigned (λ a. a.0)) i)) ∙ get-behind (paths_assigned m) path w.0
 
     abbrev given : FrontPart × FrontTurn
     given = handed_off env row s path choice
@@ -101,26 +104,30 @@ module _ (env : FrontEnv) (x : Conn) where
     abbrev v_of : List Seen → Move
     v_of heads = front_does x heads (Does (record { part = given.0; turn = given.1; calls = [] }))
 
-    pub handed-makes : (heads : List Seen) → IsConnNumber env.serve.c → IsEarlyHere row.epoch.0 → x.part.front.row ≡ Some row → ArePast row.epoch.0 x.part.nodes → m.assigned ≡ [] → Keeps files x (v_of heads)
-    unfolding placed_marks
-    handed-makes heads number early found past none help g =
+    pub handed-makes : (heads : List Seen) → IsConnNumber env.serve.c → IsEarlyHere row.epoch.0 → x.part.front.row ≡ Some row → ((i e : ℕ) → Offers i e row.stage → ⊥) → ArePast row.epoch.0 x.part.nodes → Keeps files x (v_of heads)
+    handed-makes heads number early found here past help g =
         let v : Move = v_of heads in
-        let n : WayMarks = record { wrote = m.wrote; served = s.count; assigned = (path, choice.node) ∷ [] } in
+        let n : WayMarks = placed_marks in
         let more : List Rec = rec.Admitted env.serve.c ∷ rec.AssignedFirst env.serve.c (s.count + 1) path choice.node choice.add choice.remove ∷ [] in
-        let w = wanted-first in
-        let next : MayMark_here (marked m s.notes) = subst (λ (q : WayMarks). IsNextGood files q path) (sym h.looks.told) (next-good none) in
+        let w = wanted-next in
+        let next : MayMark_here (marked m s.notes) = subst (λ (q : WayMarks). IsNextGood files q path) (sym h.looks.told) next-good in
+        let paths : paths_wanted files m ≡ paths_assigned n ++ w.0 = w.1 ∙ sym (append_assoc (paths_assigned m) (path ∷ []) w.0) ∙ ap (λ (l : List (List ℕ)). l ++ w.0) (sym (map-append (λ a. a.0) m.assigned ((path, choice.node) ∷ []))) in
         makes files x v help g n
         (rightly-append files m s.notes more h.looks.noted_so (tt, (next, tt)))
-        (marked-append m s.notes more ∙ ap (λ (q : WayMarks). record q { assigned = q.assigned ++ (path, choice.node) ∷ [] }) h.looks.told ∙ ap (λ (l : List Assigned). record m { served = s.count; assigned = l ++ (path, choice.node) ∷ [] }) none)
-        (w.0, w.1)
-        (inl (past-later row.epoch.0 (row.epoch.0 + 1) (x.part.nodes choice.node).row (omega arith) (past choice.node), record { path = path; assigned = refl; answered = h.looks.none; asks = refl }))
+        (marked-append m s.notes more ∙ ap (λ (q : WayMarks). record q { assigned = q.assigned ++ (path, choice.node) ∷ []; fresh = true; home = Some choice.node }) h.looks.told)
+        (w.0, paths)
+        (refl, inl (
+          past-later row.epoch.0 (row.epoch.0 + 1) (x.part.nodes choice.node).row (omega arith) (past choice.node),
+          record { before = m.assigned; path = path; assigned = refl; fresh = refl; answered = h.looks.answered.0; asks = refl },
+        ))
         (record {
           grows = help.owes.grows;
           ask = λ i f number ps at decided was. let is : f ≡ row.epoch.0 + 1 = counts-epoch i f at in absurd (undecided i f (omega (arith, is)) decided);
           tag = λ i f number nodes at by was. let is : f ≡ row.epoch.0 + 1 = counts-epoch i f at in let le : f ≤ row.epoch.0 = subst (IsBy f) found by in absurd (omega (arith, is, le));
-          offer = λ i f parts said offer. let no : (offer.0, offer.1) ∷ [] ≡ [] = sym offer.2 ∙ none in absurd (let f : ⊥ = cc in f);
+          offer = λ i f parts at said was. let is : f ≡ row.epoch.0 + 1 = counts-epoch i f at in
+              absurd (⊎_elim (undecided i f (omega (arith, is))) (λ (o : IsOffered i f x.part.front.row). here i f (subst (IsOffered i f) found o)) said);
         })
-        (λ old. (offer-says v.part n refl, tt)) tt where
+        (λ old. (offer-says v.part, tt)) tt where
           MayMark_here : WayMarks → Type 0
           MayMark_here q = IsNextGood files q path
 
@@ -133,12 +140,12 @@ module _ (env : FrontEnv) (x : Conn) where
             go None p d = d
             go (Some b) p d = omega (arith, p.0, d, le)
 
-          offer-says : (q : Part) (n : WayMarks) → n ≡ record { wrote = m.wrote; served = s.count; assigned = (path, choice.node) ∷ [] } → LetterWays files n q (record { from = Front; to = Node choice.node; bytes = message env.serve.c (next_epoch row).0 (body.Offer (parts_of s.block s.count)) })
-          offer-says q n is = λ msg d. by-body q n is msg d msg.body refl (kinds-same (record { c = env.serve.c; epoch = record { 0 = (next_epoch row).0 }; body = body.Offer (parts_of s.block s.count) }) msg d) where
-            by-body : (q : Part) (n : WayMarks) → n ≡ record { wrote = m.wrote; served = s.count; assigned = (path, choice.node) ∷ [] } → (msg : Message) → decoded_message (message env.serve.c (next_epoch row).0 (body.Offer (parts_of s.block s.count))) ≡ Ok msg → (b : Body) → msg.body ≡ b → kind.Offer ≡ kind_of msg.body
-                → FrontSaysWays files n q choice.node msg.epoch.0 b
-            by-body q n is msg d (body.Offer parts) at same =
+          offer-says : (q : Part) → LetterWays files placed_marks q (record { from = Front; to = Node choice.node; bytes = message env.serve.c (next_epoch row).0 (body.Offer (parts_of s.block s.count)) })
+          offer-says q = λ msg d. by-body q msg d msg.body refl (kinds-same (record { c = env.serve.c; epoch = record { 0 = (next_epoch row).0 }; body = body.Offer (parts_of s.block s.count) }) msg d) where
+            by-body : (q : Part) (msg : Message) → decoded_message (message env.serve.c (next_epoch row).0 (body.Offer (parts_of s.block s.count))) ≡ Ok msg → (b : Body) → msg.body ≡ b → kind.Offer ≡ kind_of msg.body
+                → FrontSaysWays files placed_marks q choice.node msg.epoch.0 b
+            by-body q msg d (body.Offer parts) at same = λ counts.
                 let read : parts ≡ parts_of s.block s.count = offers-read env.serve.c (next_epoch row).0 h.w h.out h.vs [] s.block s.count number (omega (arith, early)) h.stream h.holds h.frozen msg parts d at in
-                inr (path, choice.node, ap (λ (q : WayMarks). q.assigned) is, subst (λ (z : EndpointParts). BeginsWithRequest files z.unread path) (sym read) h.next)
-            by-body q n is msg d (body.Tag number nodes) at same = let no : kind.Offer ≡ kind.Tag = same ∙ ap kind_of at in absurd (let f : ⊥ = cc in f)
-            by-body q n is msg d _ at same = tt
+                inr (m.assigned, path, choice.node, refl, subst (λ (z : EndpointParts). BeginsWithRequest files z.unread path) (sym read) h.next)
+            by-body q msg d (body.Tag number nodes) at same = let no : kind.Offer ≡ kind.Tag = same ∙ ap kind_of at in absurd (let f : ⊥ = cc in f)
+            by-body q msg d _ at same = tt

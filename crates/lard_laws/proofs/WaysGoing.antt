@@ -68,10 +68,10 @@ module _ (env : NodeEnv) (m : WayMarks) (r : FrontRest) where
   abbrev pub Awaits : Stay → List (List ℕ) → Type 0
   Awaits s ps = StayAsks files (r.asks + 1) ps (Some s)
 
-  pub work-goes : (b : ControlBlock) (s : Stay) → m.served ≡ s.served → StayGoes files env.n m r s → Goes env m r (Awaits s) (work_of b s)
-  work-goes b s served h = record {
+  pub work-goes : (b : ControlBlock) (s : Stay) → m.served ≡ s.served → m.fresh ≡ false → StayGoes files env.n m r s → Goes env m r (Awaits s) (work_of b s)
+  work-goes b s served fresh h = record {
     noted_so = tt;
-    told = ap (λ (n : ℕ). record m { served = n }) served;
+    told = λ i. record m { served = served i; fresh = fresh i };
     gone = h.gone;
     under = h.under;
     walked = h.walked ∙ ap (λ (n : ℕ). good_paths files (take n (verdicts m.wrote))) served;
@@ -137,29 +137,29 @@ module _ (env : NodeEnv) (m : WayMarks) (r : FrontRest) where
 
 -- ---- its first batch
 
-module _ (env : NodeEnv) (m : WayMarks) (r : FrontRest) (home : Home env m) (alone : home.others ≡ []) (w out : Stream) (vs : List Verdict) (wrote : m.wrote ≡ w.bytes) where
+module _ (env : NodeEnv) (m : WayMarks) (r : FrontRest) (before : List Assigned) (path : List ℕ) (assigned : m.assigned ≡ before ++ (path, env.n) ∷ []) (w out : Stream) (vs : List Verdict) (wrote : m.wrote ≡ w.bytes) where
   abbrev Never : List (List ℕ) → Type 0
   Never ps = ⊥
 
-  -- the first of these requests is the one that was assigned
-  pub first-goes : (used : ℕ) (k : Work) (v : Verdict) (us : List Verdict) → good_path env.serve.files v ≡ Some home.path → k.batch ≡ [] → k.asked ≡ None → k.asks ≡ r.asks → k.service.over ≡ None
-      → Rightly env.serve.files m k.service.notes → marked m k.service.notes ≡ record m { served = k.service.count } → good_paths env.serve.files (take k.service.count (verdicts m.wrote)) ≡ []
+  -- the first of these requests is the one that was assigned last
+  pub first-goes : (used : ℕ) (k : Work) (v : Verdict) (us : List Verdict) → good_path env.serve.files v ≡ Some path → k.batch ≡ [] → k.asked ≡ None → k.asks ≡ r.asks → k.service.over ≡ None
+      → Rightly env.serve.files m k.service.notes → marked m k.service.notes ≡ record m { served = k.service.count; fresh = false } → map (λ a. a.0) before ≡ good_paths env.serve.files (take k.service.count (verdicts m.wrote))
       → Works env w out vs (state_of (reads_these env true used k (v ∷ us))) → Goes env m r Never (state_of (reads_these env true used k (v ∷ us)))
   unfolding enters
   first-goes used k v us good none quiet same over notes told answered so =
       let files : FilesAt = env.serve.files in
       let start : Work = record k { service = serving_consumed used k.service } in
       let n : ℕ = k.service.count + 1 in
-      let one : Work = started_here env n home.path v start in
+      let one : Work = started_here env n path v start in
       let all : Work = enters env false (n + 1) us one in
       let whole : Work = enters env true n (v ∷ us) start in
       let is : whole ≡ all = ap (λ (o : Option (List ℕ)). enters env (enters_first env n v start o).0 (n + 1) us (enters_first env n v start o).1) good in
-      let b : Begun env env.n env.n v start one = here-begins env env.n n home.path v start in
+      let b : Begun env env.n env.n v start one = here-begins env env.n n path v start in
       let more : Enters one all (map (read_entry files) us) = read-enter env (n + 1) us one in
       let e : Enters start all ((b.entry ∷ []) ++ map (read_entry files) us) = enters-both start one all (b.entry ∷ []) (map (read_entry files) us) b.enters more in
       let batch : all.batch ≡ (b.entry ∷ []) ++ map (read_entry files) us = e.batch ∙ ap (λ (es : List Entry). es ++ ((b.entry ∷ []) ++ map (read_entry files) us)) none in
-      let under : Under files env.n all.batch ((home.path, env.n) ∷ []) = subst (λ (es : List Entry). Under files env.n es ((home.path, env.n) ∷ [])) (sym batch)
-      (under-append files env.n (b.entry ∷ []) (map (read_entry files) us) ((home.path, env.n) ∷ []) [] (inr refl) (begun-under env env.n env.n v home.path start one b good) (read-under env env.n us)) in
+      let under : Under files env.n all.batch ((path, env.n) ∷ []) = subst (λ (es : List Entry). Under files env.n es ((path, env.n) ∷ [])) (sym batch)
+      (under-append files env.n (b.entry ∷ []) (map (read_entry files) us) ((path, env.n) ∷ []) [] (inr refl) (begun-under env env.n env.n v path start one b good) (read-under env env.n us)) in
       let size : ℕ = length (v ∷ us) in
       let in_hand : Work → Work = λ u. asks_for env size (named_paths files u.batch) u in
       let later : Works env w out vs (in_hand all) = subst (λ (u : Work). Works env w out vs (in_hand u)) is so in
@@ -167,8 +167,8 @@ module _ (env : NodeEnv) (m : WayMarks) (r : FrontRest) (home : Home env m) (alo
       let reads = works-read env m r Never w out vs wrote (in_hand all) later over_all in
       subst (λ (u : Work). Goes env m r Never (in_hand u)) (sym is)
       (asks-go env m r Never size (named_paths files all.batch) all refl (unasked env m r Never size (named_paths files all.batch) all reads) (e.asks ∙ same) (e.asked ∙ unasked_now)
-      (entered-notes env m r Never start all _ e notes) (entered-told env m r Never start all _ e told) [] ((home.path, env.n) ∷ []) (home.first ∙ ap (λ (l : List Assigned). (home.path, env.n) ∷ l) alone)
-      (entered-walked env m r Never start all _ [] e (sym answered)) under (λ ps b. b)) where
+      (entered-notes env m r Never start all _ e notes) (entered-told env m r Never start all _ e told) before ((path, env.n) ∷ []) assigned
+      (entered-walked env m r Never start all _ before e answered) under (λ ps b. b)) where
         unasked_now : k.asked ≡ None
         unasked_now = quiet
 

@@ -4,17 +4,15 @@ use Rattle.std.specs.Prelude.{is_some}
 use Rattle.std.proofs.lemmas.Bool.{ltb-false, ltb-true}
 use Rattle.lard_law_view.specs.Prelude.{AreSent, Body, Conn, FilesAt, Front, FrontConn, FrontRest, FrontRow, Kept, Message, Move, Node, NodeEnv, NodePart, NodeTurn, Part, Place, Rec, Seen, Stay, again_sent, decoded_message, front_rest, kind_of, letter, named_records, node_put_back, whose, with_node}
 use Rattle.lard_law_connections.proofs.BytesLaw.{Helps}
-use Rattle.lard_law_connections.proofs.BytesFrontMessages.{past-undecided}
 use Rattle.lard_law_connections.proofs.BytesNodeMoves.{IsAt}
 use Rattle.lard_law_connections.specs.Places.{IsDecided, IsPast}
 use Rattle.lard_law_connections.proofs.PlacesHeads.{kinds-same}
 use Rattle.lard_law_view.proofs.Parts.{put-each, put-same}
-use Rattle.lard_laws.specs.WaysState.{GoesItsWay, IsAway, IsPlacedOnce, LetterWays, NodeSaysWays, SeatWays, StageWays, StayAsks, StayWays, marks_at}
-use Rattle.lard_laws.specs.WaysUnder.{Assigned}
+use Rattle.lard_laws.specs.WaysState.{GoesItsWay, IsAtHome, IsAway, IsPlacedOnce, LetterWays, NodeSaysWays, SeatWays, StageWays, StayAsks, StayWays, marks_at}
 use Rattle.lard_laws.specs.Ways.{BodyGoesOn, WayMarks}
 use Rattle.lard_laws.proofs.WaysLetters.{Counts, carries-same}
-use Rattle.lard_laws.proofs.WaysMarking.{IsPlain, Rightly, mark, marked}
-use Rattle.lard_laws.proofs.WaysMoving.{Keeps, LetterAsks, asks-append, clients-ask, clients-say, makes, same-marks, says-append, sent-ask, sent-say}
+use Rattle.lard_laws.proofs.WaysMarking.{IsPlain, Rightly, mark, marked, plain-mark}
+use Rattle.lard_laws.proofs.WaysMoving.{Keeps, LetterAsks, asks-append, clients-ask, clients-say, decided-home, makes, same-marks, says-append, sent-ask, sent-say}
 use Rattle.lard_laws.proofs.WaysSpelling.{ReadsAsk, ask-reads, epoch-reads}
 use Rattle.lard_laws.proofs.WaysTurning.{BodyIs, SaysIt, TurnWays}
 use Rattle.lard_handoff_front.specs.declared.row.FrontConn.TheVariants as stage
@@ -29,16 +27,11 @@ use Rattle.lard_rules.specs.Node.{message}
 unnamed-plain : (r : Rec) → is_some (whose r) ≡ false → IsPlain r
 unnamed-plain (rec.Wrote d bytes) e = let no : true ≡ false = e in absurd cc
 unnamed-plain (rec.Served place d k code size way) e = let no : true ≡ false = e in absurd cc
+unnamed-plain (rec.Took place d epoch) e = let no : true ≡ false = e in absurd cc
+unnamed-plain (rec.Released d) e = let no : true ≡ false = e in absurd cc
 unnamed-plain (rec.AssignedFirst d k path n add remove) e = let no : true ≡ false = e in absurd cc
 unnamed-plain (rec.AssignedLater d k path n add size queue) e = let no : true ≡ false = e in absurd cc
 unnamed-plain _ e = tt
-
-plain-same : (m : WayMarks) (r : Rec) → IsPlain r → mark m r ≡ m
-plain-same m (rec.Wrote d bytes) h = absurd h
-plain-same m (rec.Served place d r code size way) h = absurd h
-plain-same m (rec.AssignedFirst d r path n add remove) h = absurd h
-plain-same m (rec.AssignedLater d r path n add size queue) h = absurd h
-plain-same m _ h = refl
 
 module _ (files : FilesAt) where
   pub named-rightly : (m : WayMarks) (rs : List Rec) → Rightly files m rs → Rightly files m (named_records rs)
@@ -46,14 +39,14 @@ module _ (files : FilesAt) where
   named-rightly m (r ∷ rs) h = go (is_some (whose r)) refl (named-rightly (mark m r) rs h.1) where
     go : (b : Bool) → is_some (whose r) ≡ b → Rightly files (mark m r) (named_records rs) → Rightly files m (cond b (r ∷ named_records rs) (named_records rs))
     go true e later = (h.0, later)
-    go false e later = subst (λ (n : WayMarks). Rightly files n (named_records rs)) (plain-same m r (unnamed-plain r e)) later
+    go false e later = subst (λ (n : WayMarks). Rightly files n (named_records rs)) (plain-mark m r (unnamed-plain r e)) later
 
   pub named-marked : (m : WayMarks) (rs : List Rec) → marked m (named_records rs) ≡ marked m rs
   named-marked m [] = refl
   named-marked m (r ∷ rs) = go (is_some (whose r)) refl (named-marked (mark m r) rs) where
     go : (b : Bool) → is_some (whose r) ≡ b → marked (mark m r) (named_records rs) ≡ marked (mark m r) rs → marked m (cond b (r ∷ named_records rs) (named_records rs)) ≡ marked (mark m r) rs
     go true e later = later
-    go false e later = ap (λ (n : WayMarks). marked n (named_records rs)) (sym (plain-same m r (unnamed-plain r e))) ∙ later
+    go false e later = ap (λ (n : WayMarks). marked n (named_records rs)) (sym (plain-mark m r (unnamed-plain r e))) ∙ later
 
 -- ---- an Ask that goes out
 
@@ -169,10 +162,11 @@ module _ (files : FilesAt) (m : WayMarks) (p : Part) (n : ℕ) (q : NodePart) wh
 
   away-kept : KeepsStay → (e i : ℕ) → IsAway files m rest i e (p.nodes i) → IsAway files m rest i e (node_put_back p.nodes n q i)
   away-kept keeps e i h = put-each p.nodes n q (λ j (z : NodePart). j ≡ i → IsAway files m rest i e z)
-      (λ same. let mine : IsAway files m rest i e (p.nodes n) = subst (λ (j : ℕ). IsAway files m rest i e (p.nodes j)) (sym same) h in
-      ⊎_elim (λ (a : IsPast e (p.nodes n).row × IsPlacedOnce files m rest i). inl (keeps.0 e a.0, a.1))
-      (λ (a : IsDecided e (p.nodes n).row × ((path : List ℕ) × (others : List Assigned) × (m.assigned ≡ (path, i) ∷ others)) × StayWays files i m rest (p.nodes n).stay).
-      inr (keeps.1 e a.0, a.1, subst (StayWays files i m rest) (sym keeps.2) a.2)) mine)
+      (λ same. let mine : IsAway files m rest i e (p.nodes n) = subst (λ (j : ℕ). IsAway files m rest i e (p.nodes j)) (sym same) h in (
+        mine.0,
+        ⊎_elim (λ (a : IsPast e (p.nodes n).row × IsPlacedOnce files m rest i). inl (keeps.0 e a.0, a.1))
+            (λ (a : IsDecided e (p.nodes n).row × IsAtHome files m rest i (p.nodes n).stay). inr (keeps.1 e a.0, subst (IsAtHome files m rest i) (sym keeps.2) a.1)) mine.1,
+      ))
       (λ j other same. subst (λ (k : ℕ). IsAway files m rest i e (p.nodes k)) (sym same) h) i refl
 
   stage-kept : KeepsStay → (e : ℕ) (d : FrontConn) → StageWays files m p e d → StageWays files m (with_node p n q) e d
@@ -193,20 +187,16 @@ at-away fs m p n e (stage.Offering i f) at h = subst (λ (j : ℕ). IsAway fs m 
 at-away fs m p n e (stage.Moved i f) at h = subst (λ (j : ℕ). IsAway fs m (front_rest p.front.rest) j e (p.nodes j)) at h
 at-away fs m p n e _ at h = absurd at
 
--- What is known of the stay at its home.
+-- What is known of the connection at its home.
 pub record AtHome (files : FilesAt) (m : WayMarks) (r : FrontRest) (n : ℕ) (p : NodePart) : Type 0 where
-  pub path : List ℕ
-  pub others : List Assigned
-  pub first : m.assigned ≡ (path, n) ∷ others
-  pub stay : StayWays files n m r p.stay
+  pub home : m.home ≡ Some n
+  pub has : IsAtHome files m r n p.stay
 
 pub at-home : (files : FilesAt) (x : Conn) (g : GoesItsWay files x) (n : ℕ) (row : FrontRow) → x.part.front.row ≡ Some row → IsAt n row.stage → IsDecided row.epoch.0 (x.part.nodes n).row → AtHome files (marks_at x) (front_rest x.part.front.rest) n (x.part.nodes n)
 at-home files x g n row found at decided =
     let seat : StageWays files (marks_at x) x.part row.epoch.0 row.stage = subst (SeatWays files (marks_at x) x.part) found g.seat in
-    ⊎_elim (λ (a : IsPast row.epoch.0 (x.part.nodes n).row × IsPlacedOnce files (marks_at x) (front_rest x.part.front.rest) n). absurd (past-undecided row.epoch.0 (x.part.nodes n).row a.0 decided))
-    (λ (a : IsDecided row.epoch.0 (x.part.nodes n).row × ((path : List ℕ) × (others : List Assigned) × ((marks_at x).assigned ≡ (path, n) ∷ others)) × StayWays files n (marks_at x) (front_rest x.part.front.rest) (x.part.nodes n).stay).
-    record { path = a.1.0; others = a.1.1; first = a.1.2; stay = a.2 })
-    (at-away files (marks_at x) x.part n row.epoch.0 row.stage at seat)
+    let away : IsAway files (marks_at x) (front_rest x.part.front.rest) n row.epoch.0 (x.part.nodes n) = at-away files (marks_at x) x.part n row.epoch.0 row.stage at seat in
+    record { home = away.0; has = decided-home files (marks_at x) (front_rest x.part.front.rest) n row.epoch.0 (x.part.nodes n) decided away }
 
 -- ---- a turn
 
@@ -249,18 +239,18 @@ module _ (env : NodeEnv) (x : Conn) (n : ℕ) (node : env.n ≡ n) (small : env.
   }
 
   pub does-makes : (heads : List Seen) (notes : List Rec) (given : NodePart × NodeTurn) → (Was : List (List ℕ) → Type 0) (t : TurnWays env m kept p Was given) → ((e : ℕ) (ps : List (List ℕ)) → Counts x.part n e → IsDecided e p.row → StayAsks all_files (kept.asks + 1) ps p.stay → Was ps) → Rightly all_files m notes → marked m notes ≡ marked m given.1.notes
-      → (row : FrontRow) → x.part.front.row ≡ Some row → IsAt n row.stage → row.epoch.0 ≡ env.epoch → ((path : List ℕ) × (others : List Assigned) × (m.assigned ≡ (path, n) ∷ others)) → Keeps all_files x (does_with heads notes given)
-  does-makes heads notes given Was t was may same row found at epoch first help g =
+      → (row : FrontRow) → x.part.front.row ≡ Some row → IsAt n row.stage → row.epoch.0 ≡ env.epoch → m.home ≡ Some n → (m.assigned ≡ [] → ⊥) → Keeps all_files x (does_with heads notes given)
+  does-makes heads notes given Was t was may same row found at epoch home some help g =
       let v : Move = does_with heads notes given in
       let q : NodePart = given.0 in
-      let k : WayMarks = record m { served = t.served } in
+      let k : WayMarks = record m { served = t.served; fresh = false } in
       let put : node_put_back x.part.nodes n q n ≡ q = put-same x.part.nodes n q in
       let now : IsDecided env.epoch (node_put_back x.part.nodes n q n).row = subst (λ (z : NodePart). IsDecided env.epoch z.row) (sym put) t.decided in
       let here : IsDecided row.epoch.0 q.row = subst (λ (e : ℕ). IsDecided e q.row) (sym epoch) t.decided in
       let said : Each (SaysIt env k kept (node_put_back x.part.nodes n q n).stay) t.more = subst (λ (z : NodePart). Each (SaysIt env k kept z.stay) t.more) (sym put) t.said in
       makes all_files x v help g k may (same ∙ t.told) g.paths
-      (seat-put all_files k x.part n q row found at (inr (here, first, subst (λ (i : ℕ). StayWays all_files i k kept q.stay) node t.stay)))
-      (carries-same all_files m k (same-marks all_files m t.served) x.part v.part help.owes.grows refl refl
+      (seat-put all_files k x.part n q row found at (home, inr (here, record { some = some; fresh = refl; stay = subst (λ (i : ℕ). StayWays all_files i k kept q.stay) node t.stay })))
+      (carries-same all_files m k (same-marks all_files m t.served false) x.part v.part help.owes.grows refl refl
       (λ i e ps c d a. put-each x.part.nodes n q (λ j (z : NodePart). Counts x.part j e → IsDecided e (x.part.nodes j).row → StayAsks all_files (kept.asks + 1) ps (x.part.nodes j).stay → StayAsks all_files (kept.asks + 1) ps z.stay)
       (λ c d a. t.kept ps (was e ps c d a)) (λ j other c d b. b) i c d a))
       (λ old. append-letters (given.1.segments) (given.1.messages) v.part k

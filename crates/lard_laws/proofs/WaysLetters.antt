@@ -23,7 +23,7 @@ pub record Carries (files : FilesAt) (m n : WayMarks) (p q : Part) : Type 0 wher
   pub ask : (i e number : ℕ) (ps : List (List ℕ)) → Counts q i e → IsDecided e (p.nodes i).row → (Counts p i e → AskIs files m (front_rest p.front.rest) (p.nodes i).stay number ps)
       → AskIs files n (front_rest q.front.rest) (q.nodes i).stay number ps
   pub tag : (i e number : ℕ) (nodes : List ℕ) → Counts q i e → IsBy e p.front.row → (Counts p i e → TagIs (front_rest p.front.rest) number nodes) → TagIs (front_rest q.front.rest) number nodes
-  pub offer : (i e : ℕ) (parts : EndpointParts) → FrontSaid p i e kind.Offer → OfferIs files m parts → IsDecided e (q.nodes i).row ⊎ OfferIs files n parts
+  pub offer : (i e : ℕ) (parts : EndpointParts) → Counts q i e → FrontSaid p i e kind.Offer → (Counts p i e → IsDecided e (p.nodes i).row ⊎ OfferIs files m parts) → IsDecided e (q.nodes i).row ⊎ OfferIs files n parts
 
 by-grows : (nodes : ℕ → NodePart) (e : ℕ) (o r : Option FrontRow) → FrontGrows nodes o r → IsBy e o → IsBy e r
 by-grows nodes e None r g h = absurd h
@@ -35,11 +35,8 @@ module _ (files : FilesAt) (m n : WayMarks) (p q : Part) (c : Carries files m n 
   node-on i e (body.Ask number queue size paths) h = (decided-grows e (p.nodes i).row (q.nodes i).row (c.grows.nodes i) h.0, λ at. c.ask i e number paths at h.0 h.1)
   node-on i e _ h = h
 
-  offer-on : (i e : ℕ) (parts : EndpointParts) → FrontSaid p i e kind.Offer → IsDecided e (p.nodes i).row ⊎ OfferIs files m parts → IsDecided e (q.nodes i).row ⊎ OfferIs files n parts
-  offer-on i e parts said h = ⊎_elim (λ (d : IsDecided e (p.nodes i).row). inl (decided-grows e (p.nodes i).row (q.nodes i).row (c.grows.nodes i) d)) (λ (o : OfferIs files m parts). c.offer i e parts said o) h
-
   front-on : (i e : ℕ) (b : Body) → FrontSaid p i e (kind_of b) → FrontSaysWays files m p i e b → FrontSaysWays files n q i e b
-  front-on i e (body.Offer parts) said h = offer-on i e parts said h
+  front-on i e (body.Offer parts) said h = λ at. c.offer i e parts at said h
   front-on i e (body.Tag number nodes) said h = (by-grows q.nodes e p.front.row q.front.row c.grows.front h.0, λ at. c.tag i e number nodes at h.0 h.1)
   front-on i e _ said h = h
 
@@ -73,8 +70,11 @@ module _ (files : FilesAt) (m n : WayMarks) (same : IsSame files m n) where
   ask-same r o s number ps stays h = ⊎_elim (λ (a : number ≤ r.asks). inl a)
       (λ (a : (number ≡ r.asks + 1) × IsPrefix (paths_assigned m ++ ps) (paths_wanted files m) × StayAsks files (r.asks + 1) ps o). inr (a.0, prefix-same ps a.1, stays a.2)) h
 
-  pub offer-same : (parts : EndpointParts) → OfferIs files m parts → OfferIs files n parts
-  offer-same parts h = (h.0, h.1, same.assigned ∙ h.2, h.3)
+  -- an Offer is decided, or has still what was assigned last
+  pub offer-on : (p q : Part) → Grows p q → (i e : ℕ) (parts : EndpointParts) → IsDecided e (p.nodes i).row ⊎ OfferIs files m parts → IsDecided e (q.nodes i).row ⊎ OfferIs files n parts
+  offer-on p q grows i e parts h = ⊎_elim
+      (λ (d : IsDecided e (p.nodes i).row). inl (decided-grows e (p.nodes i).row (q.nodes i).row (grows.nodes i) d))
+      (λ (o : OfferIs files m parts). inr (o.0, o.1, o.2, same.assigned ∙ o.3, o.4)) h
 
   -- the front end keeps what it kept, and each node still awaits what its Ask names
   pub carries-same : (p q : Part) → Grows p q → q.front.row ≡ p.front.row → q.front.rest ≡ p.front.rest
@@ -86,14 +86,14 @@ module _ (files : FilesAt) (m n : WayMarks) (same : IsSame files m n) where
         let was : Counts p i e = sym (ap (is_row_at i e) row) ∙ at in
         subst (λ (r : FrontRest). AskIs files n r (q.nodes i).stay number ps) (ap front_rest (sym rest)) (ask-same (front_rest p.front.rest) (p.nodes i).stay (q.nodes i).stay number ps (stays i e ps was decided) (h was));
     tag = λ i e number nodes at by h. subst (λ (r : FrontRest). TagIs r number nodes) (ap front_rest (sym rest)) (h (sym (ap (is_row_at i e) row) ∙ at));
-    offer = λ i e parts said o. inr (offer-same parts o);
+    offer = λ i e parts at said h. offer-on p q grows i e parts (h (sym (ap (is_row_at i e) row) ∙ at));
   }
 
-  -- nothing counts any more, or not yet
-  pub carries-none : (p q : Part) → Grows p q → ((i e : ℕ) → Counts q i e → ⊥) → Carries files m n p q
-  carries-none p q grows none = record {
-    grows = grows;
-    ask = λ i e number ps at decided h. absurd (none i e at);
-    tag = λ i e number nodes at by h. absurd (none i e at);
-    offer = λ i e parts said o. inr (offer-same parts o);
-  }
+-- nothing counts any more, or not yet
+pub carries-none : (files : FilesAt) (m n : WayMarks) (p q : Part) → Grows p q → ((i e : ℕ) → Counts q i e → ⊥) → Carries files m n p q
+carries-none files m n p q grows none = record {
+  grows = grows;
+  ask = λ i e number ps at decided h. absurd (none i e at);
+  tag = λ i e number nodes at by h. absurd (none i e at);
+  offer = λ i e parts at said h. absurd (none i e at);
+}

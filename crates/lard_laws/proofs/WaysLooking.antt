@@ -10,7 +10,7 @@ use Rattle.lard_block.specs.declared.block.Found.TheVariants as found
 use Rattle.lard_law_connections.specs.BytesAgreement.{HasReadPending}
 use Rattle.lard_law_connections.proofs.BytesFrontReading.{IsOn, ReadsSo, block-read, long-read, turn-so}
 use Rattle.lard_law_connections.proofs.BytesServing.{MayGo, So, may-go}
-use Rattle.lard_laws.specs.WaysState.{BeginsWithRequest, WaitsForNext}
+use Rattle.lard_laws.specs.WaysState.{BeginsWithRequest, IsAllAnswered, WaitsForNext}
 use Rattle.lard_laws.specs.Ways.{AnswersBy, AnswersNextAt, ComesAsAssigned, WayMarks, good_paths}
 use Rattle.lard_laws.proofs.WaysGoods.{good-append, next-get, prefix-take}
 use Rattle.lard_laws.proofs.WaysMarking.{Rightly, marked, marked-append, rightly-append}
@@ -52,11 +52,11 @@ module _ (env : ServeEnv) (m : WayMarks) where
   abbrev pub all_verdicts : List Verdict
   all_verdicts = verdicts m.wrote
 
-  -- nothing for a file was answered
+  -- all that was assigned is answered, and nothing else for a file
   pub record Looks (s : Service) : Type 0 where
     pub noted_so : Rightly files m s.notes
     pub told : marked m s.notes ≡ record m { served = s.count }
-    pub none : good_paths files (take s.count all_verdicts) ≡ []
+    pub answered : IsAllAnswered files (record m { served = s.count })
 
   abbrev pub LooksAt : Reading → Type 0
   LooksAt x = Looks x.service × WaitsForNext files x.service.block.recv.unread x.target
@@ -69,7 +69,7 @@ module _ (env : ServeEnv) (m : WayMarks) where
   same-looks s t notes count h = record {
     noted_so = subst (Rightly files m) (sym notes) h.noted_so;
     told = ap (marked m) notes ∙ h.told ∙ ap (λ (n : ℕ). record m { served = n }) (sym count);
-    none = ap (λ (n : ℕ). good_paths files (take n all_verdicts)) count ∙ h.none;
+    answered = subst (λ (n : ℕ). IsAllAnswered files (record m { served = n })) (sym count) h.answered;
   }
 
   -- the next request is not for a file, and is answered
@@ -90,12 +90,17 @@ module _ (env : ServeEnv) (m : WayMarks) where
       (λ e. record {
         noted_so = rightly-append files m s.notes (rec.Reset env.place env.c total ∷ []) h.noted_so (tt, tt);
         told = marked-append m s.notes (rec.Reset env.place env.c total ∷ []) ∙ h.told;
-        none = h.none;
+        answered = h.answered;
       })
       (λ e. record {
         noted_so = rightly-append files m s.notes (rec.Served env.place env.c (s.count + 1) (answer_code files v) (length bytes) Own ∷ []) h.noted_so (subst (λ (q : WayMarks). AnswersNextAt files q env.place Own) (sym h.told) may, tt);
         told = marked-append m s.notes (rec.Served env.place env.c (s.count + 1) (answer_code files v) (length bytes) Own ∷ []) ∙ ap (λ (q : WayMarks). record q { served = q.served + 1 }) h.told;
-        none = ap (good_paths files) next_is ∙ good-append files (take s.count all_verdicts) (v ∷ []) ∙ (λ i. h.none i ++ lone (good_path files v) none i);
+        answered = (
+          h.answered.0
+              ∙ sym (ap (good_paths files) next_is ∙ good-append files (take s.count all_verdicts) (v ∷ []) ∙ ap (λ (l : List (List ℕ)). good_paths files (take s.count all_verdicts) ++ l) (lone (good_path files v) none)
+              ∙ append-nil (good_paths files (take s.count all_verdicts))),
+          h.answered.1,
+        );
       }) where
         regroup : (xs : List Verdict) (x : Verdict) (zs : List Verdict) → (xs ++ x ∷ []) ++ zs ≡ xs ++ x ∷ zs
         regroup [] x zs = refl

@@ -1,8 +1,8 @@
 -- What the records of a move tell of its connection's requests.
-use Rattle.std.proofs.Common.{◌≡◌, ◌+◌, ℕ, List, [], ◌∷◌, ◌++◌, map, true, cond, Some, None, refl, sym, ap, ◌∙◌, subst, nat_eq, ⊎_elim}
+use Rattle.std.proofs.Common.{◌≡◌, ◌+◌, ℕ, List, [], ◌∷◌, ◌++◌, map, true, false, cond, Some, None, refl, sym, ap, ◌∙◌, subst, nat_eq, ⊎_elim}
 use Rattle.std.specs.List.{fold}
 use Rattle.std.proofs.lemmas.List.Sums.{fold-append}
-use Rattle.lard_law_view.specs.Prelude.{Came, Conn, EachRow, FilesAt, Move, Packet, Place, Rec, Row, Seen, Tale, grown, plain, seen_in, seen_of, seen_step, tale_at, tale_of, tale_step, timer_rows, told_on, whose}
+use Rattle.lard_law_view.specs.Prelude.{Came, Conn, EachRow, FilesAt, Move, Packet, Place, Rec, Row, Seen, Tale, assignments_of, assignments_taken, grown, plain, seen_in, seen_of, seen_step, tale_at, tale_of, tale_step, timer_rows, told_on, whose}
 use Rattle.lard_law_connections.proofs.BytesLaw.{IsHead, heads-stand}
 use Rattle.lard_law_view.specs.Carry.{TellsBy}
 use Rattle.lard_law_view.specs.View.{sending}
@@ -13,16 +13,26 @@ use Rattle.lard_laws.specs.WaysState.{marks_at, marks_of}
 use Rattle.lard_laws.specs.Ways.{AnswersNextAt, IsNextGood, WayMarks}
 use Rattle.lard_history.proofs.Each.{Each, Each-weaker}
 use Rattle.lard_history.proofs.Seeing.{same_number}
+use Rattle.lard_history.specs.Journal.{Assignments}
 use Rattle.lard_journal.specs.declared.rec.Rec.TheVariants as rec
 use Rattle.lard_law_view.proofs.OfKinds.{of-gifts, of-sends, of-timers}
 
 -- ---- a record of the connection
 
+-- what was assigned, as the journal counts it
+abbrev pub chosen : WayMarks → Assignments
+chosen m = record { list = m.assigned; fresh = m.fresh }
+
+abbrev pub choosing : WayMarks → Assignments → WayMarks
+choosing m s = record m { assigned = s.list; fresh = s.fresh }
+
 abbrev pub mark : WayMarks → Rec → WayMarks
 mark m (rec.Wrote d bytes) = record m { wrote = m.wrote ++ bytes }
 mark m (rec.Served place d r code size way) = record m { served = m.served + 1 }
-mark m (rec.AssignedFirst d r path n add remove) = record m { assigned = m.assigned ++ (path, n) ∷ [] }
-mark m (rec.AssignedLater d r path n add size queue) = record m { assigned = m.assigned ++ (path, n) ∷ [] }
+mark m (rec.Took place d epoch) = choosing m (assignments_taken place (chosen m))
+mark m (rec.Released d) = record m { home = None }
+mark m (rec.AssignedFirst d r path n add remove) = record m { assigned = m.assigned ++ (path, n) ∷ []; fresh = true; home = Some n }
+mark m (rec.AssignedLater d r path n add size queue) = record m { assigned = m.assigned ++ (path, n) ∷ []; fresh = false }
 mark m _ = m
 
 abbrev pub marked : WayMarks → List Rec → WayMarks
@@ -50,13 +60,17 @@ marked-append m xs ys = fold-append mark m xs ys
 abbrev pub IsPlain : Rec → Type 0
 IsPlain (rec.Wrote d bytes) = ⊥
 IsPlain (rec.Served place d r code size way) = ⊥
+IsPlain (rec.Took place d epoch) = ⊥
+IsPlain (rec.Released d) = ⊥
 IsPlain (rec.AssignedFirst d r path n add remove) = ⊥
 IsPlain (rec.AssignedLater d r path n add size queue) = ⊥
 IsPlain _ = Unit {0}
 
-plain-mark : (m : WayMarks) (r : Rec) → IsPlain r → mark m r ≡ m
+pub plain-mark : (m : WayMarks) (r : Rec) → IsPlain r → mark m r ≡ m
 plain-mark m (rec.Wrote d bytes) h = absurd h
 plain-mark m (rec.Served place d r code size way) h = absurd h
+plain-mark m (rec.Took place d epoch) h = absurd h
+plain-mark m (rec.Released d) h = absurd h
 plain-mark m (rec.AssignedFirst d r path n add remove) h = absurd h
 plain-mark m (rec.AssignedLater d r path n add size queue) h = absurd h
 plain-mark m _ h = refl
@@ -80,6 +94,8 @@ plain-rightly files m (r ∷ rs) h = (plain-may files m r h.0, plain-rightly fil
 abbrev pub IsOwnMark : ℕ → Rec → Type 0
 IsOwnMark c (rec.Wrote d bytes) = d ≡ c
 IsOwnMark c (rec.Served place d r code size way) = d ≡ c
+IsOwnMark c (rec.Took place d epoch) = d ≡ c
+IsOwnMark c (rec.Released d) = d ≡ c
 IsOwnMark c (rec.AssignedFirst d r path n add remove) = d ≡ c
 IsOwnMark c (rec.AssignedLater d r path n add size queue) = d ≡ c
 IsOwnMark c _ = Unit {0}
@@ -94,6 +110,8 @@ names c d r of note = ⊎_elim
 pub noted-own : (place : Place) (c : ℕ) (r : Rec) → NotedAt place c r → IsOwnMark c r
 noted-own place c (rec.Wrote d bytes) h = names c d (rec.Wrote d bytes) refl (note-of place c (rec.Wrote d bytes) h)
 noted-own place c (rec.Served p d r code size way) h = names c d (rec.Served p d r code size way) refl (note-of place c (rec.Served p d r code size way) h)
+noted-own place c (rec.Took p d epoch) h = names c d (rec.Took p d epoch) refl (note-of place c (rec.Took p d epoch) h)
+noted-own place c (rec.Released d) h = names c d (rec.Released d) refl (note-of place c (rec.Released d) h)
 noted-own place c (rec.AssignedFirst d r path n add remove) h = names c d (rec.AssignedFirst d r path n add remove) refl (note-of place c (rec.AssignedFirst d r path n add remove) h)
 noted-own place c (rec.AssignedLater d r path n add size queue) h =
     names c d (rec.AssignedLater d r path n add size queue) refl (note-of place c (rec.AssignedLater d r path n add size queue) h)
@@ -105,8 +123,12 @@ mine d c e = subst (λ (n : ℕ). nat_eq n c ≡ true) (sym e) (same_number c)
 pub one-step : (c : ℕ) (t : Tale) (r : Rec) → IsOwnMark c r → marks_of (tale_step c t r) ≡ mark (marks_of t) r
 one-step c t (rec.Wrote d bytes) h = ap (λ b. record (marks_of t) { wrote = cond b (t.wrote ++ bytes) t.wrote }) (mine d c h)
 one-step c t (rec.Served place d r code size way) h = ap (λ b. record (marks_of t) { served = cond b (t.served + 1) t.served }) (mine d c h)
-one-step c t (rec.AssignedFirst d r path n add remove) h = ap (λ b. record (marks_of t) { assigned = cond b (t.assigned ++ (path, n) ∷ []) t.assigned }) (mine d c h)
-one-step c t (rec.AssignedLater d r path n add size queue) h = ap (λ b. record (marks_of t) { assigned = cond b (t.assigned ++ (path, n) ∷ []) t.assigned }) (mine d c h)
+one-step c t (rec.Took place d epoch) h = ap (λ b. choosing (marks_of t) (cond b (assignments_taken place (assignments_of t)) (assignments_of t))) (mine d c h)
+one-step c t (rec.Released d) h = ap (λ b. record (marks_of t) { home = cond b None t.home }) (mine d c h)
+one-step c t (rec.AssignedFirst d r path n add remove) h =
+    ap (λ b. record (choosing (marks_of t) (cond b (record { list = t.assigned ++ (path, n) ∷ []; fresh = true }) (assignments_of t))) { home = cond b (Some n) t.home }) (mine d c h)
+one-step c t (rec.AssignedLater d r path n add size queue) h =
+    ap (λ b. choosing (marks_of t) (cond b (record { list = t.assigned ++ (path, n) ∷ []; fresh = false }) (assignments_of t))) (mine d c h)
 one-step c t _ h = refl
 
 module _ (files : FilesAt) (c : ℕ) where
@@ -125,6 +147,8 @@ module _ (files : FilesAt) (c : ℕ) where
   plain-own : (r : Rec) → IsPlain r → IsOwnMark c r
   plain-own (rec.Wrote d bytes) h = absurd h
   plain-own (rec.Served place d r code size way) h = absurd h
+  plain-own (rec.Took place d epoch) h = absurd h
+  plain-own (rec.Released d) h = absurd h
   plain-own (rec.AssignedFirst d r path n add remove) h = absurd h
   plain-own (rec.AssignedLater d r path n add size queue) h = absurd h
   plain-own _ h = tt

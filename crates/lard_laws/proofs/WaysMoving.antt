@@ -1,10 +1,12 @@
 -- A move leaves a connection on its way, where its notes may stand, its seat agrees, and what is said agrees.
-use Rattle.std.proofs.Common.{◌≡◌, ◌⊎◌, ℕ, List, [], ◌∷◌, ◌++◌, map, Ok, inl, refl, sym, ◌∙◌, subst, append-nil}
-use Rattle.lard_law_view.specs.Prelude.{AreSent, Client, Conn, EachRow, FilesAt, Front, IsPrefix, Kept, Letter, Message, Move, Node, Part, Place, Seen, TurnSaid, Was, decoded_message, grown, letter, letters_of, seen_in, sent_of, stands}
+use Rattle.std.proofs.Common.{◌≡◌, ◌⊎◌, ℕ, Bool, List, [], ◌∷◌, ◌++◌, map, Ok, inl, ⊎_elim, refl, sym, ◌∙◌, subst, append-nil}
+use Rattle.lard_law_view.specs.Prelude.{AreSent, Client, Conn, EachRow, FilesAt, Front, FrontRest, IsPrefix, Kept, Letter, Message, Move, Node, NodePart, Part, Place, Seen, TurnSaid, Was, decoded_message, grown, letter, letters_of, seen_in, sent_of, stands}
 use Rattle.lard_law_connections.proofs.BytesLaw.{Helps}
 use Rattle.lard_law_connections.proofs.BytesClientMoves.{has-fair}
+use Rattle.lard_law_connections.proofs.BytesFrontMessages.{past-undecided}
+use Rattle.lard_law_connections.specs.Places.{IsDecided, IsPast}
 use Rattle.lard_law_connections.proofs.PlacesGrowing.{grows-still}
-use Rattle.lard_laws.specs.WaysState.{GoesItsWay, LetterWays, SeatWays, marks_at}
+use Rattle.lard_laws.specs.WaysState.{GoesItsWay, IsAtHome, IsAway, IsPlacedOnce, LetterWays, SeatWays, marks_at}
 use Rattle.lard_laws.specs.Ways.{BodyGoesOn, WayMarks, paths_assigned, paths_wanted}
 use Rattle.lard_laws.proofs.WaysLetters.{Carries, IsSame, carries-same, letters-on}
 use Rattle.lard_laws.proofs.WaysMarking.{IsPlain, Mine, Rightly, marked, marks-after, plain-marked, plain-rightly, rows-mine}
@@ -98,8 +100,14 @@ module _ (files : FilesAt) (x : Conn) (v : Move) (help : Helps x v) (g : GoesIts
       )
 
 -- what was assigned is the same, and so is what the client wrote
-pub same-marks : (files : FilesAt) (m : WayMarks) (n : ℕ) → IsSame files m (record m { served = n })
-same-marks files m n = record { assigned = refl; wanted = ([], sym (append-nil (paths_wanted files m))) }
+pub same-marks : (files : FilesAt) (m : WayMarks) (served : ℕ) (fresh : Bool) → IsSame files m (record m { served = served; fresh = fresh })
+same-marks files m served fresh = record { assigned = refl; wanted = ([], sym (append-nil (paths_wanted files m))) }
+
+-- it is at its home, where that has decided
+pub decided-home : (files : FilesAt) (m : WayMarks) (r : FrontRest) (home e : ℕ) (p : NodePart) → IsDecided e p.row → IsAway files m r home e p → IsAtHome files m r home p.stay
+decided-home files m r home e p decided h = ⊎_elim
+    (λ (a : IsPast e p.row × IsPlacedOnce files m r home). absurd (past-undecided e p.row a.0 decided))
+    (λ (a : IsDecided e p.row × IsAtHome files m r home p.stay). a.1) h.1
 
 -- nothing that is kept changes, and nothing is told
 pub stands-makes : (files : FilesAt) (x : Conn) (place : Place) (heads : List Seen) (said : TurnSaid) → Each IsPlain said.notes
@@ -108,4 +116,4 @@ pub stands-makes : (files : FilesAt) (x : Conn) (place : Place) (heads : List Se
 stands-makes files x place heads said plain new asks help g =
     let m : WayMarks = marks_at x in
     makes files x (stands x place heads said) help g m (plain-rightly files m said.notes plain) (plain-marked m said.notes plain) g.paths g.seat
-    (carries-same files m m (same-marks files m m.served) x.part x.part (grows-still x.part) refl refl (λ i e ps at decided a. a)) new asks
+    (carries-same files m m (same-marks files m m.served m.fresh) x.part x.part (grows-still x.part) refl refl (λ i e ps at decided a. a)) new asks

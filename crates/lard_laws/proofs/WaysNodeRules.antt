@@ -49,7 +49,7 @@ module _ (files : FilesAt) (x : Conn) (n : ℕ) (heads : List Seen) where
       let v : Move = node_does x n heads (Does (q, node_saying [])) in
       makes files x v help g m tt refl g.paths
       (seat-kept files m x.part n q ((λ e h. gone-past e p.row h), (λ e h. gone-decided e p.row h), refl) x.part.front.row g.seat)
-      (carries-same files m m (same-marks files m m.served) x.part v.part help.owes.grows refl refl
+      (carries-same files m m (same-marks files m m.served m.fresh) x.part v.part help.owes.grows refl refl
       (λ i e ps c d a. put-each x.part.nodes n q (λ j (z : NodePart). StayAsks files ((front_rest x.part.front.rest).asks + 1) ps (x.part.nodes j).stay → StayAsks files ((front_rest x.part.front.rest).asks + 1) ps z.stay) (λ b. b) (λ j other b. b) i a))
       (λ old. tt) tt
 

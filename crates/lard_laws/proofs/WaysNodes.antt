@@ -1,5 +1,5 @@
 -- Each rule of a node leaves a connection on its way.
-use Rattle.std.proofs.Common.{◌≡◌, ◌≤◌, ◌<◌, ◌^◌, ℕ, List, [], ◌∷◌, ◌++◌, length, Some, refl, sym, ap, ◌∙◌, subst, arith}
+use Rattle.std.proofs.Common.{◌≡◌, ◌≤◌, ◌<◌, ◌^◌, ℕ, List, [], ◌++◌, length, Some, refl, sym, ap, ◌∙◌, subst, arith}
 use Rattle.lard_law_view.specs.Prelude.{Conn, ControlBlock, FilesAt, Front, FrontRest, FrontRow, IsNodeEnv, IsWord, Node, NodeDeed, NodeEnv, NodePart, NodeTurn, Rec, Said, Seen, Setting, SpellsMessage, Stay, Talk, Was, after_timer, came_for, come_progress, front_rest, goes_on, named_paths, named_records, node_does, node_fired, node_rests, on_segment, read_progress, serving, serving_ready_of, spoken, tagged, timed, with_work, without, work_of}
 use Rattle.lard_base.specs.declared.place.TimerKind.TheVariants as timer
 use Rattle.lard_history.proofs.Each.{Each}
@@ -10,7 +10,6 @@ use Rattle.lard_law_connections.proofs.BytesNodeTurns.{talk-of}
 use Rattle.lard_law_connections.proofs.PlacesTurns.{IsPlaced, early-at, small-early}
 use Rattle.lard_law_view.proofs.EachNode.{told_first}
 use Rattle.lard_laws.specs.WaysState.{FrontSaysWays, GoesItsWay, LetterWays, StayWays, TagIs, marks_at}
-use Rattle.lard_laws.specs.WaysUnder.{Assigned}
 use Rattle.lard_laws.specs.Ways.{WayMarks}
 use Rattle.lard_laws.proofs.NodeStays.{StayHolds, stay-holds, with-row}
 use Rattle.lard_laws.proofs.WaysHomes.{AtHome, at-home, does-makes, named-marked, named-rightly}
@@ -56,7 +55,8 @@ module _ (k : Setting) (small : k.stream ≤ 2 ^ 30) (x : Conn) (truth : IsTruth
       placed : IsPlaced x
       way : GoesItsWay files x
       early : env.epoch < 2 ^ 16
-      path : (path : List ℕ) × (others : List Assigned) × (m.assigned ≡ (path, n) ∷ others)
+      home : m.home ≡ Some n
+      some : m.assigned ≡ [] → ⊥
       row : FrontRow
       found : x.part.front.row ≡ Some row
       at : IsAt n row.stage
@@ -69,18 +69,20 @@ module _ (k : Setting) (small : k.stream ≤ 2 ^ 30) (x : Conn) (truth : IsTruth
         let h : AtHome files m r n p = at-home files x g n has.row has.found has.at has.decided in
         record {
           agree = record {
-            home = record { place = is.place ∙ ap Node (sym is.node); path = h.path; others = h.others; first = h.first ∙ ap (λ (i : ℕ). (h.path, i) ∷ h.others) (sym is.node) };
+            home = record { place = is.place ∙ ap Node (sym is.node); home = h.home ∙ ap Some (sym is.node) };
             wrote = y.opened.tale.wrote;
             counted = y.opened.tale.served;
             talk = talk-of k small x y.station y.there l truth.pend y.opened n env epoch is;
-            stay = subst (λ (i : ℕ). StayWays files i m r p.stay) (sym is.node) h.stay;
+            fresh = h.has.fresh;
+            stay = subst (λ (i : ℕ). StayWays files i m r p.stay) (sym is.node) h.has.stay;
             held = y.held;
             is = here.stays;
           };
           placed = placed;
           way = g;
           early = let most = small-early has.row.epoch.0 has.row.stage (early-at x placed has.row has.found has.row.stage refl) in let same = has.same in omega (arith, most, same);
-          path = (h.path, h.others, h.first);
+          home = h.home;
+          some = h.has.some;
           row = has.row;
           found = has.found;
           at = has.at;
@@ -94,7 +96,7 @@ module _ (k : Setting) (small : k.stream ≤ 2 ^ 30) (x : Conn) (truth : IsTruth
         let named : List Rec = named_records given.1.notes in
         does-makes env x n is.node q.early heads (first ++ named) given (Asked_by env m r p) turn (λ e ps c d w. w)
         (rightly-append files m first named (plain-rightly files m first plain) (subst (λ (q : WayMarks). Rightly files q named) (sym (plain-marked m first plain)) (named-rightly files m given.1.notes turn.notes)))
-        (marked-append m first named ∙ ap (λ (q : WayMarks). marked q named) (plain-marked m first plain) ∙ named-marked files m given.1.notes) q.row q.found q.at q.same q.path help g
+        (marked-append m first named ∙ ap (λ (q : WayMarks). marked q named) (plain-marked m first plain) ∙ named-marked files m given.1.notes) q.row q.found q.at q.same q.home q.some help g
 
     pub hears : (said : Said) → IsWord l.w said → After (with_work env p [] (goes_on env (work_of (on_segment b said).1 t)))
     hears said word = does-here (node_rests env p [] (goes_on env (work_of (on_segment b said).1 t))) (λ q. hears-ways env m r l truth.pend p b t q.agree said word)

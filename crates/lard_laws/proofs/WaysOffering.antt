@@ -1,6 +1,7 @@
 -- An Offer that a node takes: which endpoint it brings, and which request was assigned with it.
-use Rattle.std.proofs.Common.{◌≡◌, ◌≤◌, ◌<◌, ◌^◌, ◌⊎◌, ℕ, List, [], ◌∷◌, Option, Some, None, ⊎_elim, refl, sym, ap, ◌∙◌, subst, arith}
-use Rattle.lard_law_view.specs.Prelude.{BackRow, Conn, EndpointParts, Epoch, FilesAt, Front, FrontConn, FrontRest, FrontRow, IsConnNumber, IsNodeEnv, Kept, Node, NodeEnv, NodePart, Setting, SpellsMessage, Station, Talk, Verdict, Was, decoded_message, front_rest, offer_answer, parts_of, tale_at}
+use Rattle.std.proofs.Common.{◌≡◌, ◌≤◌, ◌<◌, ◌^◌, ◌⊎◌, ◌==◌, ℕ, true, List, [], ◌∷◌, ◌++◌, Option, Some, None, ⊎_elim, refl, sym, ap, ◌∙◌, subst, arith, eq-eqb}
+use Rattle.std.proofs.lemmas.Bool.{and_from}
+use Rattle.lard_law_view.specs.Prelude.{BackRow, Conn, EndpointParts, Epoch, FilesAt, Front, FrontConn, FrontRest, FrontRow, IsConnNumber, IsNodeEnv, Kept, Node, NodeEnv, NodePart, Setting, SpellsMessage, Station, Talk, Verdict, Was, decoded_message, front_rest, is_row_at, is_with, offer_answer, parts_of, tale_at}
 use Rattle.lard_law_connections.specs.BytesAgreement.{AwayAgrees, IsFair, IsKept, IsOffering, IsOpen, NodeAgrees, SeatAgrees, StageAgrees}
 use Rattle.lard_law_connections.proofs.BytesClientMoves.{has-fair}
 use Rattle.lard_law_connections.proofs.BytesMessages.{offers-read}
@@ -9,7 +10,7 @@ use Rattle.lard_law_connections.specs.Places.{IsComing, IsDecided, IsOffered, Is
 use Rattle.lard_law_connections.proofs.PlacesFrontMessages.{came-says}
 use Rattle.lard_law_connections.proofs.PlacesNodeRules.{not-decided}
 use Rattle.lard_law_connections.proofs.PlacesTurns.{IsPlaced, early-at}
-use Rattle.lard_laws.specs.WaysState.{BeginsWithRequest, GoesItsWay, IsAway, IsPlacedOnce, LetterWays, OfferIs, SeatWays, StageWays, marks_at}
+use Rattle.lard_laws.specs.WaysState.{BeginsWithRequest, GoesItsWay, IsAtHome, IsAway, IsPlacedOnce, LetterWays, OfferIs, SeatWays, StageWays, marks_at}
 use Rattle.lard_laws.specs.WaysUnder.{Assigned}
 use Rattle.lard_laws.specs.Ways.{WayMarks}
 use Rattle.lard_handoff_back.specs.declared.table.Adopt.TheVariants.{New}
@@ -17,7 +18,7 @@ use Rattle.lard_handoff_front.specs.declared.row.FrontConn.TheVariants as stage
 use Rattle.lard_message.specs.declared.message.Body.TheVariants as body
 use Rattle.lard_rules.specs.Node.{message}
 
--- It is on its way from the front end, which froze this endpoint; the next request of that was assigned to this node, and none before.
+-- It is on its way from the front end, which froze this endpoint; the next request of that was assigned to this node, its home.
 pub record IsTaken (files : FilesAt) (x : Conn) (l : Talk) (pend : List Verdict) (n epoch : ℕ) (parts : EndpointParts) : Type 0 where
   pub row : FrontRow
   pub found : x.part.front.row ≡ Some row
@@ -28,16 +29,23 @@ pub record IsTaken (files : FilesAt) (x : Conn) (l : Talk) (pend : List Verdict)
   pub early : epoch < 2 ^ 16
   pub offering : IsOffering l.w l.out l.vs pend x.c n row.epoch.0 x.part.front.kept
   pub same : parts ≡ parts_of offering.block offering.count
+  pub home : (marks_at x).home ≡ Some n
   pub once : IsPlacedOnce files (marks_at x) (front_rest x.part.front.rest) n
   pub next : BeginsWithRequest files offering.block.recv.unread once.path
   pub nobody : (tale_at x).owner ≡ None
 
--- one assignment is one path
-first-path : (a b : List ℕ) (i j : ℕ) → ◌≡◌ {A = List Assigned} ((a, i) ∷ []) ((b, j) ∷ []) → a ≡ b
-first-path a b i j e = ap path_of e where
-  path_of : List Assigned → List ℕ
-  path_of [] = a
-  path_of (g ∷ gs) = g.0
+-- the last of some assignments is of one path
+last-path : (all xs ys : List Assigned) (a b : Assigned) → all ≡ xs ++ a ∷ [] → all ≡ ys ++ b ∷ [] → a.0 ≡ b.0
+last-path all xs ys a b e f = sym (is xs a) ∙ ap last (sym e) ∙ ap last f ∙ is ys b where
+  last : List Assigned → List ℕ
+  last [] = []
+  last (g ∷ []) = g.0
+  last (g ∷ h ∷ gs) = last (h ∷ gs)
+
+  is : (zs : List Assigned) (g : Assigned) → last (zs ++ g ∷ []) ≡ g.0
+  is [] g = refl
+  is (z ∷ []) g = refl
+  is (z ∷ y ∷ zs) g = is (y ∷ zs) g
 
 -- a node that has it has decided
 there-decided : (n e : ℕ) (w : Owning) (row : Option BackRow) → IsThere n e w row → IsDecided e row
@@ -85,10 +93,12 @@ module _ (k : Setting) (small : k.stream ≤ 2 ^ 30) (x : Conn) (s : Station) (t
         (talk-of k small x s there l pend o n env epoch is).stream offering.holds offering.frozen _ parts (ap decoded_message spelled ∙ spells) refl in
         let mine : IsAway files m r n row.epoch.0 p = subst (StageWays files m x.part row.epoch.0) at (subst (SeatWays files m x.part) found g.seat) in
         let once : IsPlacedOnce files m r n = ⊎_elim (λ (a : IsPast row.epoch.0 p.row × IsPlacedOnce files m r n). a.1)
-        (λ (a : IsDecided row.epoch.0 p.row × _ × _). absurd (undecided a.0)) mine in
+        (λ (a : IsDecided row.epoch.0 p.row × IsAtHome files m r n p.stay). absurd (undecided a.0)) mine.1 in
+        let counts : is_row_at n epoch x.part.front.row ≡ true =
+        subst (λ (o : Option FrontRow). is_row_at n epoch o ≡ true) (sym found) (subst (λ (f : FrontConn). is_with n epoch f ≡ true) (sym at) (and_from (n == n) (d.0 == epoch) (eq-eqb n n refl) (eq-eqb d.0 epoch when))) in
         let offer : OfferIs files m parts = ⊎_elim (λ (a : IsDecided epoch p.row). absurd (not a)) (λ (a : OfferIs files m parts). a)
-        ((has-fair (LetterWays files m x.part) (record { from = Front; to = Node n; bytes = bytes }) x.letters was g.letters) _ spells) in
-        let paths : offer.0 ≡ once.path = first-path offer.0 once.path offer.1 n (sym offer.2 ∙ once.assigned) in
+        ((has-fair (LetterWays files m x.part) (record { from = Front; to = Node n; bytes = bytes }) x.letters was g.letters) _ spells counts) in
+        let paths : offer.1 ≡ once.path = last-path m.assigned offer.0 once.before (offer.1, offer.2) (once.path, n) offer.3 once.assigned in
         record {
           row = row;
           found = found;
@@ -99,8 +109,9 @@ module _ (k : Setting) (small : k.stream ≤ 2 ^ 30) (x : Conn) (s : Station) (t
           early = omega (arith, early, now);
           offering = offering;
           same = same;
+          home = mine.0;
           once = once;
-          next = subst (λ (q : EndpointParts). BeginsWithRequest files q.unread once.path) same (subst (BeginsWithRequest files parts.unread) paths offer.3);
+          next = subst (λ (q : EndpointParts). BeginsWithRequest files q.unread once.path) same (subst (BeginsWithRequest files parts.unread) paths offer.4);
           nobody = ⊎_elim (λ (a : IsComing row.epoch.0 (owning (tale_at x)) p.row). a.0)
               (λ (a : IsThere n row.epoch.0 (owning (tale_at x)) p.row). absurd (undecided (there-decided n row.epoch.0 (owning (tale_at x)) p.row a))) sits.3;
         }

@@ -24,7 +24,7 @@ use Rattle.lard_laws.proofs.WaysMoments.{assigns-a-prefix}
 use Rattle.lard_laws.proofs.WaysMoving.{IsMade}
 use Rattle.lard_laws.proofs.WaysNodeRules.{Owes, ignores, nodes}
 use Rattle.lard_history.proofs.Lifting.{tale-own}
-use Rattle.lard_history.proofs.Tales.{assigned-tale, served-tale, touched-tale, wrote-tale}
+use Rattle.lard_history.proofs.Tales.{assignments-tale, home-tale, served-tale, touched-tale, wrote-tale}
 use Rattle.lard_journal.specs.declared.rec.Rec.TheVariants as rec
 
 -- ---- the law
@@ -77,7 +77,13 @@ module _ (files : FilesAt) where
   seen_so c past r = WhileUntouched (λ c. Mine files c) c past r
 
   pub marks-own : (J : List Rec) (c : ℕ) → marks_of (tale_of c (own c J)) ≡ way_marks J c
-  marks-own J c = ap marks_of (sym (tale-own J c)) ∙ (λ i. record { wrote = sym (wrote-tale J c) i; served = sym (served-tale J c) i; assigned = sym (assigned-tale J c) i })
+  marks-own J c = ap marks_of (sym (tale-own J c)) ∙ (λ i. record {
+    wrote = sym (wrote-tale J c) i;
+    served = sym (served-tale J c) i;
+    assigned = (sym (assignments-tale J c) i).list;
+    fresh = (sym (assignments-tale J c) i).fresh;
+    home = sym (home-tale J c) i;
+  })
 
   says : (J : List Rec) (r : Rec) (c d : ℕ) → d ≡ c → seen_so c (own c J) r → is_touched J d ≡ false → MayTell files c (tale_of c (own c J)) r
   says J r c d same h u = h (ap (λ (t : Tale). t.touched) (sym (tale-own J c)) ∙ sym (touched-tale J c) ∙ subst (λ (q : ℕ). is_touched J q ≡ false) same u)

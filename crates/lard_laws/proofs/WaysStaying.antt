@@ -1,8 +1,8 @@
 -- While a stay goes on, its batch and its connection's assignments agree, and each response goes with its own.
-use Rattle.std.proofs.Common.{◌≡◌, ◌+◌, nat_lt, ℕ, suc, false, List, [], ◌∷◌, ◌++◌, map, length, take, Option, Some, None, inl, inr, ⊎_elim, refl, sym, ap, ◌∙◌, subst, arith, append_assoc, append-nil}
+use Rattle.std.proofs.Common.{◌≡◌, ◌+◌, nat_lt, ℕ, false, List, [], ◌∷◌, ◌++◌, map, length, take, Option, Some, None, inl, inr, ⊎_elim, refl, sym, ap, ◌∙◌, subst, arith, append_assoc, append-nil}
 use Rattle.std.specs.List.{slice_get}
 use Rattle.std.proofs.lemmas.Bool.{cond_both}
-use Rattle.std.proofs.lemmas.List.{length-append, map-append}
+use Rattle.std.proofs.lemmas.List.{length-append, length-map, map-append}
 use Rattle.lard_law_view.specs.Prelude.{Asked, Done, Entry, FilesAt, FrontRest, IsPrefix, More, Node, NodeEnv, Progress, Rec, Service, Step, Stream, Verdict, Via, Work, and_path, answer, answer_code, answered, asks_for, ended_at_fin, enters, good_path, named_path, named_paths, passed_over, path_in, queued, read_entry, reads_these, serves_with, serving_consumed, stay_after, verdicts}
 use Rattle.lard_base.specs.declared.place.Via.TheVariants as via
 use Rattle.lard_law_connections.specs.BytesTurning.{IsReading}
@@ -19,15 +19,13 @@ use Rattle.lard_journal.specs.declared.rec.Rec.TheVariants as rec
 use Rattle.lard_rules.specs.declared.stay.Progress.TheVariants as progress
 use Rattle.lard_rules.proofs.StayWalking.{StepIn}
 
--- a batch is read where none is left
--- What is known of a connection before the turn of its home: what was marked, what the front end keeps, and that its first assignment
--- is of this node. `Before` is so of the paths of an Ask that it awaits.
+-- the node whose turn it is, is the connection's home
 pub record Home (env : NodeEnv) (m : WayMarks) : Type 0 where
   pub place : env.serve.place ≡ Node env.n
-  pub path : List ℕ
-  pub others : List Assigned
-  pub first : m.assigned ≡ (path, env.n) ∷ others
+  pub home : m.home ≡ Some env.n
 
+-- A batch is read where none is left. `m` is what was marked before the turn of its home, `r` what the front end keeps, and `Before` is so
+-- of the paths of an Ask that it awaits.
 module _ (env : NodeEnv) (m : WayMarks) (r : FrontRest) (Before : List (List ℕ) → Type 0) where
   abbrev files : FilesAt
   files = env.serve.files
@@ -35,9 +33,9 @@ module _ (env : NodeEnv) (m : WayMarks) (r : FrontRest) (Before : List (List ℕ
   abbrev pub all_verdicts : List Verdict
   all_verdicts = verdicts m.wrote
 
-  -- so many were answered
+  -- so many were answered, and a node took the connection
   abbrev pub served_now : ℕ → WayMarks
-  served_now n = record m { served = n }
+  served_now n = record m { served = n; fresh = false }
 
   abbrev pub AsksFor : List (List ℕ) → Work → Type 0
   AsksFor ps k = (k.asks ≡ r.asks + 1) × (ps ≡ named_paths files k.batch)
@@ -196,9 +194,6 @@ module _ (env : NodeEnv) (m : WayMarks) (r : FrontRest) (Before : List (List ℕ
   -- ---- the first request of the batch is served
 
   module _ (home : Home env m) where
-    first-is : slice_get m.assigned 0 ≡ Some (home.path, env.n)
-    first-is = ap (λ (l : List Assigned). slice_get l 0) home.first
-
     -- the assignment behind those that were answered
     its-own : (gone gs : List Assigned) (g : Assigned) (k : Work) → IsAsking files m r (stay_after 0 k) gone (g ∷ gs) → slice_get m.assigned (length gone) ≡ Some g
     its-own gone gs g k h = ⊎_elim
@@ -265,7 +260,7 @@ module _ (env : NodeEnv) (m : WayMarks) (r : FrontRest) (Before : List (List ℕ
       }
       served-as (Some path) good [] split l = absurd l
       served-as (Some path) good (g ∷ gs) split l =
-          let size : length goods ≡ length h.gone = sym (ap length h.walked) ∙ length-map h.gone in
+          let size : length goods ≡ length h.gone = sym (ap length h.walked) ∙ length-map h.gone (λ a. a.0) in
           record {
             gone = h.gone ++ g ∷ [];
             under = gs;
@@ -273,18 +268,15 @@ module _ (env : NodeEnv) (m : WayMarks) (r : FrontRest) (Before : List (List ℕ
             walked = map-push h.gone g ∙ (λ i. h.walked i ++ l.0 i ∷ []) ∙ sym (push-good (Some path) good);
             lies = l.2;
             may = subst (ComesAsAssigned files (served_now k.service.count) env.serve.place way) (sym good) (record {
-              first = (home.path, env.n);
-              first_is = first-is;
+              home = env.n;
+              home_is = home.home;
               its = g;
               its_is = ap (slice_get m.assigned) size ∙ its-own h.gone gs g k (subst (IsAsking files m r (stay_after 0 k) h.gone) split h.asking);
               path_is = l.0;
               place_is = home.place;
               comes = l.1;
             });
-          } where
-            length-map : (xs : List Assigned) → length (map (λ a. a.0) xs) ≡ length xs
-            length-map [] = refl
-            length-map (x ∷ xs) = ap suc (length-map xs)
+          }
 
       served : Served
       served =

@@ -1,6 +1,6 @@
 -- What a turn of a node leaves: its responses go with their assignments, its batch still agrees with them, and an Ask names the next
 -- good requests.
-use Rattle.std.proofs.Common.{◌≡◌, ◌+◌, ◌⊎◌, ℕ, List, [], ◌∷◌, ◌++◌, length, Option, Some, None, inl, inr, ⊎_elim, refl, sym, ap, ◌∙◌, subst, arith, append_assoc, append-nil}
+use Rattle.std.proofs.Common.{◌≡◌, ◌+◌, ◌⊎◌, ℕ, false, List, [], ◌∷◌, ◌++◌, length, Option, Some, None, inl, inr, ⊎_elim, refl, sym, ap, ◌∙◌, subst, arith, append_assoc, append-nil}
 use Rattle.lard_law_view.specs.Prelude.{Asked, Body, Client, ControlBlock, Ending, FilesAt, Front, FrontRest, IsPrefix, IsWord, Node, NodeDeed, NodeEnv, NodePart, NodeTurn, Place, Said, Stay, Talk, Turn, Verdict, Want, Work, after_timer, again_sent, asked_sent, came_for, come_progress, ended_sent, goes_on, kept_after, named_paths, node_fired, on_segment, read_progress, serving, serving_ready_of, serving_settled, spoken, tagged, timed, turn_by, wants_sent, with_work, without, work_of}
 use Rattle.lard_base.specs.declared.place.TimerKind.TheVariants as timer
 use Rattle.lard_law_connections.proofs.AwaitsNodes.{HasServed, settled-served, spoken-served}
@@ -48,8 +48,8 @@ module _ (env : NodeEnv) (m : WayMarks) (r : FrontRest) where
   pub record TurnWays (before : NodePart) (Was : List (List ℕ) → Type 0) (given : NodePart × NodeTurn) : Type 0 where
     pub served : ℕ
     pub notes : Rightly files m given.1.notes
-    pub told : marked m given.1.notes ≡ record m { served = served }
-    pub stay : StayWays files env.n (record m { served = served }) r given.0.stay
+    pub told : marked m given.1.notes ≡ record m { served = served; fresh = false }
+    pub stay : StayWays files env.n (record m { served = served; fresh = false }) r given.0.stay
     pub kept : (ps : List (List ℕ)) → Was ps → StayAsks files (r.asks + 1) ps given.0.stay
     pub decided : IsDecided env.epoch given.0.row
     pub to : AllTo (Client env.serve.c) given.1.segments
@@ -70,7 +70,7 @@ module _ (env : NodeEnv) (m : WayMarks) (r : FrontRest) where
   wants-say stay (x ∷ xs) = (inl (x.node, refl), wants-say stay xs)
 
   module _ (Before : List (List ℕ) → Type 0) (k : Work) (h : Goes env m r Before k) where
-    after-stay : (part : NodePart) (e : Ending) → HasServed k.service.count e → StayWays files env.n (record m { served = k.service.count }) r (kept_after env part k e).stay
+    after-stay : (part : NodePart) (e : Ending) → HasServed k.service.count e → StayWays files env.n (record m { served = k.service.count; fresh = false }) r (kept_after env part k e).stay
     after-stay part (ending.Here b count) served = record { gone = h.gone; under = h.under; walked = h.walked; lies = h.lies; asking = h.asking }
     after-stay part (ending.Over last) served = tt
 
@@ -142,6 +142,7 @@ module _ (env : NodeEnv) (m : WayMarks) (r : FrontRest) where
     pub wrote : m.wrote ≡ l.w.bytes
     pub counted : m.served ≡ length l.vs
     pub talk : IsTalk env l.w l.out l.vs
+    pub fresh : m.fresh ≡ false
     pub stay : StayWays files env.n m r p.stay
     pub held : IsHeld env l.w l.out l.vs l.was_reset pend (b, s)
     pub is : p.stay ≡ Some s
@@ -154,7 +155,7 @@ module _ (env : NodeEnv) (m : WayMarks) (r : FrontRest) where
     Before = Awaits env m r s
 
     begun : Goes env m r Before k
-    begun = work-goes env m r b s (a.counted ∙ sym a.held.1.counted) (subst (StayWays files env.n m r) a.is a.stay)
+    begun = work-goes env m r b s (a.counted ∙ sym a.held.1.counted) a.fresh (subst (StayWays files env.n m r) a.is a.stay)
 
     asks-it : (ps : List (List ℕ)) → StayAsks files (r.asks + 1) ps p.stay → Before ps
     asks-it ps asked = subst (StayAsks files (r.asks + 1) ps) a.is asked
