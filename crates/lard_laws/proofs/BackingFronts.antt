@@ -1,6 +1,6 @@
--- The rules of the front end: it answers before anything is assigned, and assigns the next request.
-use Rattle.std.proofs.Common.{◌≡◌, ◌≤◌, ◌+◌, ◌^◌, ℕ, Bool, true, false, List, [], ◌∷◌, ◌++◌, Option, Some, None, ⊎_elim, refl, sym, ap, ◌∙◌, subst}
-use Rattle.lard_law_view.specs.Prelude.{Ask, Conn, ControlBlock, FilesAt, FirstChoice, Front, FrontConn, FrontDeed, FrontEnv, FrontGets, FrontPart, FrontRest, FrontRow, IsFrontEnv, IsWord, LaterChoice, Move, Node, NodePart, Place, Reading, Rec, Said, Seen, Service, Setting, Station, Talk, Verdict, assigned_notes, front_does, front_reads, front_rest, front_rule, is_row_at, is_with, last_words, over_note, serving, serving_settled, tombstone, turn_here}
+-- The rules of the front end: a first assignment is of the next request, behind the answers to all that was assigned.
+use Rattle.std.proofs.Common.{◌≡◌, ◌≤◌, ◌+◌, ◌^◌, ℕ, Bool, true, false, List, [], ◌∷◌, ◌++◌, Option, Some, None, refl, sym, ap, ◌∙◌, subst}
+use Rattle.lard_law_view.specs.Prelude.{Ask, Conn, ControlBlock, FilesAt, FirstChoice, Front, FrontConn, FrontDeed, FrontEnv, FrontGets, FrontPart, FrontRow, IsFrontEnv, IsWord, LaterChoice, Move, Node, Place, Reading, Rec, Said, Seen, Service, Setting, Station, Talk, Verdict, assigned_notes, front_does, front_reads, front_rest, front_rule, last_words, over_note, serving, serving_settled, tombstone, turn_here}
 use Rattle.lard_laws.specs.BackingRequests.{IsFor}
 use Rattle.lard_laws.proofs.BackingMoving.{Keeps, makes, others-for}
 use Rattle.lard_laws.proofs.BackingNext.{next-for}
@@ -12,8 +12,7 @@ use Rattle.lard_law_connections.proofs.PlacesLoops.{settled-is}
 use Rattle.lard_law_connections.proofs.PolicyAsides.{IsAside}
 use Rattle.lard_law_connections.proofs.PolicyReading.{reads-notes}
 use Rattle.lard_law_view.proofs.Saying.{NotedAt}
-use Rattle.lard_laws.specs.WaysState.{BeginsWithRequest, GoesItsWay, IsAway, IsPlacedOnce, WaitsForNext, SeatWays, StageWays, StayWays, marks_at}
-use Rattle.lard_laws.specs.WaysUnder.{Assigned}
+use Rattle.lard_laws.specs.WaysState.{BeginsWithRequest, GoesItsWay, IsAllAnswered, WaitsForNext, SeatWays, StageWays, marks_at}
 use Rattle.lard_laws.specs.Ways.{WayMarks}
 use Rattle.lard_laws.proofs.WaysFrontStays as ways
 use Rattle.lard_laws.proofs.WaysMarking.{mark, marked}
@@ -37,36 +36,32 @@ each-front P [] ys h = tt
 each-front P (x ∷ xs) ys h = (h.0, each-front P xs ys h.1)
 
 module _ (files : FilesAt) (m : WayMarks) where
-  -- what is read and answered, as long as nothing is assigned
-  aside-steady : (c : ℕ) → m.assigned ≡ [] → (r : Rec) → NotedAt Front c r → IsAside r → IsSteady files m r
-  aside-steady c none (rec.Took Front d epoch) own a = (tt, tt)
-  aside-steady c none (rec.Served Front d r code size way) own a = (tt, none)
-  aside-steady c none (rec.Reset Front d total) own a = (tt, tt)
-  aside-steady c none (rec.Waits d) own a = absurd a
-  aside-steady c none (rec.Admitted d) own a = absurd a
-  aside-steady c none (rec.AssignedFirst d r path n add remove) own a = absurd a
-  aside-steady c none (rec.AssignedLater d r path n add size queue) own a = absurd a
-  aside-steady c none (rec.BatchOver d) own a = absurd a
-  aside-steady c none (rec.Released d) own a = absurd a
-  aside-steady c none _ own a = absurd own
+  -- what is read and answered
+  aside-steady : (c : ℕ) (r : Rec) → NotedAt Front c r → IsAside r → IsSteady files m r
+  aside-steady c (rec.Took Front d epoch) own a = (tt, tt)
+  aside-steady c (rec.Served Front d r code size way) own a = (tt, tt)
+  aside-steady c (rec.Reset Front d total) own a = (tt, tt)
+  aside-steady c (rec.Waits d) own a = absurd a
+  aside-steady c (rec.Admitted d) own a = absurd a
+  aside-steady c (rec.AssignedFirst d r path n add remove) own a = absurd a
+  aside-steady c (rec.AssignedLater d r path n add size queue) own a = absurd a
+  aside-steady c (rec.BatchOver d) own a = absurd a
+  aside-steady c (rec.Released d) own a = absurd a
+  aside-steady c _ own a = absurd own
 
-  asides-steady : (c : ℕ) → m.assigned ≡ [] → (rs : List Rec) → Each (NotedAt Front c) rs → Each IsAside rs → Each (IsSteady files m) rs
-  asides-steady c none [] own a = tt
-  asides-steady c none (r ∷ rs) own a = (aside-steady c none r own.0 a.0, asides-steady c none rs own.1 a.1)
+  asides-steady : (c : ℕ) (rs : List Rec) → Each (NotedAt Front c) rs → Each IsAside rs → Each (IsSteady files m) rs
+  asides-steady c [] own a = tt
+  asides-steady c (r ∷ rs) own a = (aside-steady c r own.0 a.0, asides-steady c rs own.1 a.1)
 
-  asides-back : (c : ℕ) → m.assigned ≡ [] → (rs : List Rec) → Each (NotedAt Front c) rs → Each IsAside rs → Backs files m rs
-  asides-back c none rs own a = steady-backs files m rs (asides-steady c none rs own a)
+  asides-back : (c : ℕ) (rs : List Rec) → Each (NotedAt Front c) rs → Each IsAside rs → Backs files m rs
+  asides-back c rs own a = steady-backs files m rs (asides-steady c rs own a)
 
--- later requests, where one was assigned before
-push-some : (xs : List Assigned) (y : Assigned) → xs ++ y ∷ [] ≡ [] → ⊥
-push-some [] y e = let no : y ∷ [] ≡ [] = e in cc
-push-some (x ∷ xs) y e = let no : x ∷ (xs ++ y ∷ []) ≡ [] = e in cc
-
-later-backs : (files : FilesAt) (c : ℕ) (ask : Ask) (m : WayMarks) → (m.assigned ≡ [] → ⊥) → (r : ℕ) (paths : List (List ℕ)) (choices : List LaterChoice) → Backs files m (assigned_notes c ask r paths choices)
-later-backs files c ask m some r [] choices = tt
-later-backs files c ask m some r (path ∷ paths) [] = tt
-later-backs files c ask m some r (path ∷ paths) (choice ∷ choices) =
-    (some, later-backs files c ask (mark m (rec.AssignedLater c (r + 1) path choice.node choice.add ask.size ask.queue)) (push-some m.assigned (path, choice.node)) (r + 1) paths choices)
+-- later requests
+later-backs : (files : FilesAt) (c : ℕ) (ask : Ask) (m : WayMarks) (r : ℕ) (paths : List (List ℕ)) (choices : List LaterChoice) → Backs files m (assigned_notes c ask r paths choices)
+later-backs files c ask m r [] choices = tt
+later-backs files c ask m r (path ∷ paths) [] = tt
+later-backs files c ask m r (path ∷ paths) (choice ∷ choices) =
+    (tt, later-backs files c ask (mark m (rec.AssignedLater c (r + 1) path choice.node choice.add ask.size ask.queue)) (r + 1) paths choices)
 
 over-backs : (files : FilesAt) (c : ℕ) (m : WayMarks) (over : Bool) (rs : List Rec) → Backs files m rs → Backs files m (over_note c over ++ rs)
 over-backs files c m true rs h = (tt, h)
@@ -97,11 +92,11 @@ module _ (k : Setting) (small : k.stream ≤ 2 ^ 30) (x : Conn) (truth : IsTruth
   abbrev Goal : FrontDeed → Type 0
   Goal d = let rs : List Rec = (front_does x heads d).said.notes in Each (NotedAt Front x.c) rs → GoesItsWay files x → Backs files m rs
 
-  -- what was read, where nothing was assigned: what it notes is told, and the next request is for the path that is to be placed
+  -- what was read: what it notes is told, all that was assigned is answered then, and the next request is for the path that is to be placed
   record Looked (w : Service) (target : Option (List ℕ)) : Type 0 where
-    none : m.assigned ≡ []
     aside : Each IsAside w.notes
     told : marked m w.notes ≡ record m { served = w.count }
+    answered : IsAllAnswered files (record m { served = w.count })
     for : (path : List ℕ) → target ≡ Some path → IsFor files m.wrote (w.count + 1) path
 
   abbrev Came : Service → Option (List ℕ) → Type 0
@@ -110,7 +105,7 @@ module _ (k : Setting) (small : k.stream ≤ 2 ^ 30) (x : Conn) (truth : IsTruth
   -- what it read is said, and then this
   looked-backs : (w : Service) (target : Option (List ℕ)) (more : List Rec) → Looked w target → Each (NotedAt Front x.c) (w.notes ++ more) → Backs files (record m { served = w.count }) more → Backs files m (w.notes ++ more)
   looked-backs w target more looked noted h =
-      backs-append files m w.notes more (asides-back files m x.c looked.none w.notes (each-front (NotedAt Front x.c) w.notes more noted) looked.aside)
+      backs-append files m w.notes more (asides-back files m x.c w.notes (each-front (NotedAt Front x.c) w.notes more noted) looked.aside)
       (subst (λ (q : WayMarks). Backs files q more) (sym looked.told) h)
 
   -- ---- of one whose client opened
@@ -135,9 +130,9 @@ module _ (k : Setting) (small : k.stream ≤ 2 ^ 30) (x : Conn) (truth : IsTruth
           let y : Reading = front_reads env.serve (heard_reading p b sd) in
           let a : ways.Looked k small x truth env is heads y.service y.target = ways.row-looks k small x truth env is heads s there talk sd word row b at g in
           record {
-            none = a.none;
             aside = reads-notes env.serve (heard_reading p b sd) tt;
             told = a.looks.told;
+            answered = a.looks.answered;
             for = λ path e.
                 let f = a.frozen path e in
                 subst (λ (q : List ℕ). IsFor files q (y.service.count + 1) path) (sym f.wrote) (next-for files f.w f.out f.vs y.service.block y.service.count f.holds.holds f.frozen path f.next);
@@ -150,10 +145,10 @@ module _ (k : Setting) (small : k.stream ≤ 2 ^ 30) (x : Conn) (truth : IsTruth
         reads = row-looks;
         holds = λ row b w at came noted g.
             let same : (serving_settled env.serve w).1.notes ≡ w.notes = (settled-is env.serve w).notes in
-            subst (Backs files m) (sym same) (asides-back files m x.c (came g).none w.notes (subst (Each (NotedAt Front x.c)) same noted) (came g).aside);
+            subst (Backs files m) (sym same) (asides-back files m x.c w.notes (subst (Each (NotedAt Front x.c)) same noted) (came g).aside);
         hands = λ row b w path choice at came is noted g.
             let more : List Rec = rec.Admitted env.serve.c ∷ rec.AssignedFirst env.serve.c (w.count + 1) path choice.node choice.add choice.remove ∷ [] in
-            looked-backs w (Some path) more (came g) noted (tt, (((came g).none, refl, (came g).for path refl), tt));
+            looked-backs w (Some path) more (came g) noted (tt, (((came g).answered.0, refl, (came g).for path refl), tt));
         waits = λ row b w path at came is noted g. looked-backs w (Some path) (rec.Waits env.serve.c ∷ []) (came g) noted (tt, tt);
         stays = λ row b at noted g. tt;
         forwards = λ row n e at noted g. tt;
@@ -173,23 +168,6 @@ module _ (k : Setting) (small : k.stream ≤ 2 ^ 30) (x : Conn) (truth : IsTruth
         let served : count + 1 ≡ m.served + 1 = ap (λ (i : ℕ). i + 1) (fh.0.holds.counted ∙ sym o.tale.served) in
         (tt, ((seat.0.0, served, for), tt))
 
-  -- ---- an Ask
-
-  -- where it is with a node, one request was assigned
-  away-some : (n e : ℕ) (q : NodePart) (r : FrontRest) → IsAway files m r n e q → m.assigned ≡ [] → ⊥
-  away-some n e q r h none = ⊎_elim
-      (λ (a : _ × IsPlacedOnce files m r n). let no : (a.1.path, n) ∷ [] ≡ [] = sym a.1.assigned ∙ none in let f : ⊥ = cc in f)
-      (λ (a : _ × ((path : List ℕ) × (others : List Assigned) × (m.assigned ≡ (path, n) ∷ others)) × StayWays files n m r q.stay). let no : (a.1.0, n) ∷ a.1.1 ≡ [] = sym a.1.2 ∙ none in let f : ⊥ = cc in f) h
-
-  stage-some : (n epoch e : ℕ) (d : FrontConn) → is_with n epoch d ≡ true → StageWays files m x.part e d → m.assigned ≡ [] → ⊥
-  stage-some n epoch e (stage.Offering i f) at h = away-some i e (x.part.nodes i) (front_rest p.rest) h
-  stage-some n epoch e (stage.Moved i f) at h = away-some i e (x.part.nodes i) (front_rest p.rest) h
-  stage-some n epoch e _ at h = let no : false ≡ true = at in absurd (let f : ⊥ = cc in f)
-
-  row-some : (n epoch : ℕ) (o : Option FrontRow) → is_row_at n epoch o ≡ true → SeatWays files m x.part o → m.assigned ≡ [] → ⊥
-  row-some n epoch None at h = let no : false ≡ true = at in absurd (let f : ⊥ = cc in f)
-  row-some n epoch (Some row) at h = stage-some n epoch row.epoch.0 row.stage at h
-
   -- ---- whatever comes
 
   by-rules : KeptByFront env p (FrontComes x env heads) Came Goal
@@ -202,7 +180,7 @@ module _ (k : Setting) (small : k.stream ≤ 2 ^ 30) (x : Conn) (truth : IsTruth
     takes = λ from epoch c row n e at same noted g. tt;
     tags_again = λ n epoch ask c rest found there same some noted g. tt;
     assigns_next = λ n epoch ask c rest found there next noted g.
-        over-backs files env.serve.c m (env.later ask).over _ (later-backs files env.serve.c ask m (row-some n epoch p.row there g.seat) rest.assigned ask.paths (env.later ask).choices);
+        over-backs files env.serve.c m (env.later ask).over _ (later-backs files env.serve.c ask m rest.assigned ask.paths (env.later ask).choices);
     ends_again = λ n epoch last c row found away again noted g. tt;
     ends = λ n epoch last c row found away noted g. (tt, (tt, tt));
     admits = λ choice made met row b path at target.

@@ -2,9 +2,10 @@
 use Rattle.std.proofs.Common.{◌≡◌, ◌+◌, ℕ, zero, suc, false, List, [], ◌∷◌, ◌++◌, length, Option, Some, None, Ok, refl, sym, ap, ◌∙◌, subst, arith, append_assoc, inl}
 use Rattle.std.proofs.lemmas.List.Sums.{fold-append}
 use Rattle.std.specs.List.{fold}
-use Rattle.lard_law_view.specs.Prelude.{BackRow, Came, Entry, FilesAt, Has, Node, Packet, Progress, Rec, Seen, Stay, Via, come_on, decoded_message, gone, is_touched, net_of, net_step, seen_on, wrote}
+use Rattle.lard_law_view.specs.Prelude.{BackRow, Came, Entry, FilesAt, Has, Node, Packet, Progress, Rec, Seen, Stay, Via, assigned, come_on, decoded_message, gone, is_touched, net_of, net_step, seen_on, wrote}
 use Rattle.lard_base.specs.declared.place.Via.TheVariants as via
 use Rattle.lard_laws.proofs.BackingAssignments.{HasAssignment}
+use Rattle.lard_laws.proofs.BackingLasting.{lasts-on}
 use Rattle.lard_laws.specs.BackingRequests.{IsFor}
 use Rattle.lard_laws.specs.BackingTold.{WasTold}
 use Rattle.lard_laws.proofs.BackingMarks.{for-later, untouched-before}
@@ -22,8 +23,10 @@ assigned-past files w past rs c r ask h = record {
   its = h.its;
   behind = h.behind ++ rs;
   split = ap (λ (l : List Rec). l ++ rs) h.split ∙ append_assoc h.before (h.its ∷ h.behind) rs;
+  made = h.made;
   assigns = h.assigns;
   place = h.place;
+  lasts = lasts-on past rs c (length (assigned h.before c)) h.made h.lasts;
 }
 
 pub told-more : (past rs : List Rec) (n c epoch : ℕ) (ask : Option ℕ) → WasTold past n c epoch ask → WasTold (past ++ rs) n c epoch ask

@@ -1,24 +1,23 @@
 -- In every state what backs a response of a node, and what it has in hand, stands behind what told the node where the request is assigned.
-use Rattle.std.proofs.Common.{◌≡◌, ◌≤◌, ◌+◌, ◌-◌, ◌==◌, ◌^◌, ℕ, Bool, true, false, cond, List, [], ◌++◌, Option, Some, None, Result, Ok, Err, refl, sym, ap, ◌∙◌, subst, append_assoc, eqb-true, ⊎_elim, ◌∷◌, length, inl, arith, ◌<◌}
+use Rattle.std.proofs.Common.{◌≡◌, ◌≤◌, ◌+◌, ◌-◌, ◌==◌, ◌^◌, ℕ, Bool, true, false, cond, List, [], ◌++◌, Option, Some, None, Result, Ok, Err, refl, sym, ap, ◌∙◌, subst, append_assoc, eqb-true, ⊎_elim, length, inl}
 use Rattle.std.specs.FinMap.{get-empty}
 use Rattle.std.specs.Ordering.{nat_cmp}
 use Rattle.std.specs.Prelude.{slice_set}
 use Rattle.std.proofs.lemmas.List.Sums.{fold-append}
-use Rattle.lard_law_view.specs.Prelude.{BackIn, BackRow, Body, Came, Config, Conn, ControlBlock, EachMay, EndpointParts, Event, FilesAt, Front, Has, IsConnNumber, IsNodeEnv, IsReached, Letter, Machine, Message, MsgFault, Node, NodeEnv, NodePart, NodeSetting, NodeState, Out, Packet, Place, Rec, Seen, Setting, SpellsMessage, Station, Stay, Tale, Was, assigned, back_held, batch_of, both_of, came_seen, conn, conn_of, decoded_message, file_at, here, is_tag_awaited, is_touched, letter_of, machine_start, machine_told, named_in, net_of, no_stays, node_at, node_env, node_gave, node_part, node_setting, node_step, offer_answer, own, packet_at, seen_on, setting_of, staying, tale_at, touched_step, wrote, wrote_step}
+use Rattle.lard_law_view.specs.Prelude.{BackIn, BackRow, Body, Came, Config, Conn, ControlBlock, EachMay, EndpointParts, Event, FilesAt, Front, Has, IsConnNumber, IsNodeEnv, IsReached, Letter, Machine, Message, MsgFault, Node, NodeEnv, NodePart, NodeSetting, NodeState, Out, Packet, Place, Rec, Seen, Setting, SpellsMessage, Station, Stay, Tale, Was, assignments, assignments_step, back_held, batch_of, both_of, came_seen, conn, conn_of, decoded_message, file_at, here, is_tag_awaited, is_touched, letter_of, machine_start, machine_told, named_in, net_of, no_stays, node_at, node_env, node_gave, node_part, node_setting, node_step, offer_answer, own, packet_at, seen_on, setting_of, staying, tale_at, touched_step, wrote, wrote_step}
 use Rattle.lard_base.specs.declared.event.Event.TheVariants as event
 use Rattle.lard_laws.specs.Asks.{ask_tale}
 use Rattle.lard_laws.proofs.AsksRuns.{each-told}
 use Rattle.lard_laws.specs.BackingRequests.{IsFor}
 use Rattle.lard_laws.specs.BackingState.{FetchesFor, LetterFor}
 use Rattle.lard_laws.proofs.BackingRules.{each-backed}
-use Rattle.lard_laws.specs.BackingTold.{TagHasCome, files_before}
-use Rattle.lard_laws.proofs.BackingAssignments.{HasAssignment, assignment-at, first-assigned, last-assigned}
+use Rattle.lard_laws.specs.BackingTold.{TagHasCome}
+use Rattle.lard_laws.proofs.BackingAssignments.{HasAssignment, first-assigned, last-assigned}
 use Rattle.lard_laws.proofs.BackingElsewhere.{allows-still, stays-still}
 use Rattle.lard_laws.proofs.BackingHeld.{StayHits, assigned-past, stay-more}
-use Rattle.lard_laws.proofs.BackingHitting.{IsStill, MayHit, stills-may}
-use Rattle.lard_laws.proofs.BackingMarked.{marks-lawful}
+use Rattle.lard_laws.proofs.BackingHitting.{IsStill, MayHit, begins_by, stills-may}
 use Rattle.lard_laws.proofs.BackingNodes.{hand-for}
-use Rattle.lard_laws.proofs.BackingOffered.{IsAlone, offered-for}
+use Rattle.lard_laws.proofs.BackingOffered.{IsAssignedWith, offered-for}
 use Rattle.lard_laws.proofs.BackingTagged.{IsOfLast, tag-counts}
 use Rattle.lard_laws.proofs.BackingTurns.{EachNamed, FirstIn, first-weaker, named-both, named-weaker}
 use Rattle.lard_laws.proofs.BackingWalking.{BodyKnown, GetsKnown, StepHits, StepKnown, node-more, step-hits}
@@ -37,15 +36,15 @@ use Rattle.lard_law_view.proofs.Naming.{Names, decoded-names}
 use Rattle.lard_law_view.proofs.Parts.{node-kept, node-others, node-set}
 use Rattle.lard_law_view.proofs.Runs.{of-nodes}
 use Rattle.lard_laws.specs.WaysState.{GoesItsWay, marks_at}
-use Rattle.lard_laws.specs.WaysUnder.{Assigned}
+use Rattle.lard_laws.specs.Ways.{WayMarks, way_marks}
 use Rattle.lard_laws.proofs.WaysBacked.{RowTook, TookIn}
 use Rattle.lard_laws.proofs.WaysEarlier.{each-served}
-use Rattle.lard_laws.proofs.WaysRuns.{each-guarded}
+use Rattle.lard_laws.proofs.WaysRuns.{each-guarded, marks-own}
 use Rattle.lard_handoff_back.specs.declared.table.Adopt.TheVariants.{New}
 use Rattle.lard_history.proofs.Each.{each_append}
 use Rattle.lard_history.proofs.Lifting.{tale-own}
 use Rattle.lard_history.proofs.Seeing.{by_number, one-mine, own-append}
-use Rattle.lard_history.proofs.Tales.{assigned-tale, touched-tale, wrote-tale}
+use Rattle.lard_history.proofs.Tales.{touched-tale}
 use Rattle.lard_message.specs.declared.message.Body.TheVariants as body
 use Rattle.lard_rules.specs.declared.node.BackIn.TheVariants as input
 use Rattle.lard_law_view.proofs.OwnRecords.{behind}
@@ -61,9 +60,13 @@ row-took n c epoch past (Some row) t y is h = go (row.epoch.0 == epoch) refl is 
 
 -- ---- what is known of a message that comes in a state
 
--- it is for its path, and was assigned for this Ask, by what these records say
-abbrev MeantBy : FilesAt → ℕ → List Rec → Option ℕ → ℕ → List ℕ → Type 0
-MeantBy files c J ask r path = IsFor files (wrote J c) r path × HasAssignment files (wrote J c) J c r ask
+-- it is for its path, and was assigned for this Ask, by what these records say, and by what a node notes behind them
+abbrev MeantBy : FilesAt → ℕ → ℕ → ℕ → List Rec → Option ℕ → ℕ → List ℕ → Type 0
+MeantBy files n c epoch J ask r path = IsFor files (wrote J c) r path × HasAssignment files (wrote J c) (J ++ begins_by n c epoch ask) c r ask
+
+-- or by these records alone, for an Ask
+abbrev MeantFor : FilesAt → ℕ → List Rec → ℕ → ℕ → List ℕ → Type 0
+MeantFor files c J number r path = IsFor files (wrote J c) r path × HasAssignment files (wrote J c) J c r (Some number)
 
 module _ (m : Machine) (small : m.config.stream ≤ 2 ^ 30) (reached : IsReached m.config m.files m) where
   abbrev files : FilesAt
@@ -77,13 +80,10 @@ module _ (m : Machine) (small : m.config.stream ≤ 2 ^ 30) (reached : IsReached
   unfolding conn
   calm c u = ap (λ (t : Tale). t.touched) (sym (tale-own m.journal c)) ∙ sym (touched-tale m.journal c) ∙ u
 
-  wrote-own : (c : ℕ) → (marks_at (conn m c)).wrote ≡ wrote m.journal c
+  -- what is marked of a connection is marked by the journal
+  marked-own : (c : ℕ) → marks_at (conn m c) ≡ way_marks m.journal c
   unfolding conn
-  wrote-own c = ap (λ (t : Tale). t.wrote) (sym (tale-own m.journal c)) ∙ sym (wrote-tale m.journal c)
-
-  assigned-own : (c : ℕ) → (marks_at (conn m c)).assigned ≡ assigned m.journal c
-  unfolding conn
-  assigned-own c = ap (λ (t : Tale). t.assigned) (sym (tale-own m.journal c)) ∙ sym (assigned-tale m.journal c)
+  marked-own c = marks-own files m.journal c
 
   module _ (i : ℕ) (s : NodeState) (at : node_at m.nodes i ≡ Some s) where
     abbrev its : NodeSetting
@@ -119,36 +119,26 @@ module _ (m : Machine) (small : m.config.stream ≤ 2 ^ 30) (reached : IsReached
       opened : is_touched m.journal c ≡ false → (t : Station) × (x.part.station ≡ Some t)
       opened u = opened-at files x (truthful u) (front-opens x i bytes sent)
 
-      -- the first request for a file was assigned first
-      alone-assigned : is_touched m.journal c ≡ false → (r : ℕ) → ((a : Assigned) × ((marks_at (conn m c)).assigned ≡ a ∷ [])) → files_before files (wrote m.journal c) r ≡ 0 → HasAssignment files (wrote m.journal c) m.journal c r None
-      alone-assigned u r one none =
-          let some : 0 < length (assigned m.journal c) = let is : length (assigned m.journal c) ≡ 1 = ap length (sym (assigned-own c) ∙ one.1) in omega (arith, is) in
-          first-assigned files (wrote m.journal c) m.journal c r (marks-lawful m.config m.files m small reached) u none (assignment-at c m.journal 0 some)
-
       -- an Offer
       offer-known : (parts : EndpointParts) → SpellsMessage c epoch (body.Offer parts) bytes → offer_answer epoch (node_part s c).row ≡ New → is_touched m.journal c ≡ false
-          → FirstIn files (MeantBy files c m.journal None) (parts.served + 1) (batch_of 8 parts.unread)
+          → FirstIn files (IsAssignedWith files (way_marks m.journal c)) (parts.served + 1) (batch_of 8 parts.unread)
       unfolding conn
       offer-known parts spells new u =
           let h = truthful u in
           let o = opened u in
-          let alone = offered-for k small x o.0 o.1 h.talk h.pend (open-at files x o.0 o.1 h) i epoch env is-env parts bytes spells sent placed number (ways u) (subst (λ (p : NodePart). offer_answer epoch p.row ≡ New) (sym (part-is c)) new) in
-          first-weaker files (IsAlone files (marks_at x)) (MeantBy files c m.journal None)
-          (λ r path f. (subst (λ (q : List ℕ). IsFor files q r path) (wrote-own c) f.0, alone-assigned u r f.1 (subst (λ (q : List ℕ). files_before files q r ≡ 0) (wrote-own c) f.2)))
-          (parts.served + 1) (batch_of 8 parts.unread) alone
+          subst (λ (w : WayMarks). FirstIn files (IsAssignedWith files w) (parts.served + 1) (batch_of 8 parts.unread)) (marked-own c)
+          (offered-for k small x o.0 o.1 h.talk h.pend (open-at files x o.0 o.1 h) i epoch env is-env parts bytes spells sent placed number (ways u) (subst (λ (p : NodePart). offer_answer epoch p.row ≡ New) (sym (part-is c)) new))
 
       -- the last that were assigned were assigned for the last Ask
-      last-known : (number_of r : ℕ) → number_of ≡ (ask_tale x.c x.seen).done.last → length (marks_at x).assigned ≤ files_before files (marks_at x).wrote r + length (ask_tale x.c x.seen).done.nodes → files_before files (marks_at x).wrote r < length (marks_at x).assigned
-          → HasAssignment files (wrote m.journal c) m.journal c r (Some number_of)
+      last-known : (number_of r : ℕ) (path : List ℕ) → number_of ≡ (ask_tale x.c x.seen).done.last → IsOfLast files (marks_at x) (length (ask_tale x.c x.seen).done.nodes) r path → HasAssignment files (wrote m.journal c) m.journal c r (Some number_of)
       unfolding conn
-      last-known number_of r last low high =
-          let count : length (marks_at x).assigned ≡ length (assigned m.journal c) = ap length (assigned-own c) in
-          let before : files_before files (marks_at x).wrote r ≡ files_before files (wrote m.journal c) r = ap (λ (q : List ℕ). files_before files q r) (wrote-own c) in
-          last-assigned files (wrote m.journal c) m.journal c r number_of last (omega (arith, low, count, before)) (assignment-at c m.journal (files_before files (wrote m.journal c) r) (omega (arith, high, count, before)))
+      last-known number_of r path last low =
+          let all = subst (λ (w : WayMarks). IsOfLast files w (length (ask_tale x.c x.seen).done.nodes) r path) (marked-own c) low in
+          last-assigned files (wrote m.journal c) m.journal c r number_of last all.0 all.1
 
       -- a Tag that counts
       tag-known : (number_of : ℕ) (nodes : List ℕ) → SpellsMessage c epoch (body.Tag number_of nodes) bytes → (y : ControlBlock × Stay) → here epoch (node_part s c) ≡ Some y → is_tag_awaited env number_of nodes (node_part s c) y.1 ≡ true → is_touched m.journal c ≡ false
-          → EachNamed files (MeantBy files c m.journal (Some number_of)) (y.1.served + 1) y.1.batch
+          → EachNamed files (MeantFor files c m.journal number_of) (y.1.served + 1) y.1.batch
       unfolding conn
       tag-known number_of nodes spells y held awaited u =
           let h = truthful u in
@@ -157,9 +147,9 @@ module _ (m : Machine) (small : m.config.stream ≤ 2 ^ 30) (reached : IsReached
           let counted = tag-counts k small x o.0 o.1 h.talk h.pend (open-at files x o.0 o.1 h) i epoch env is-env placed (ways u) (each-told m.config m.files m reached c) number_of nodes bytes spells sent y there
           (subst (λ (p : NodePart). is_tag_awaited env number_of nodes p y.1 ≡ true) (sym (part-is c)) awaited) in
           named-both files (IsFor files (wrote m.journal c)) (λ r path. HasAssignment files (wrote m.journal c) m.journal c r (Some number_of)) (y.1.served + 1) y.1.batch
-          (subst (λ (q : List ℕ). EachNamed files (IsFor files q) (y.1.served + 1) y.1.batch) (wrote-own c)
-          (hand-for k small x o.0 o.1 h.talk h.pend (open-at files x o.0 o.1 h) i epoch env is-env placed (ways u) y there))
-          (named-weaker files (IsOfLast files (marks_at x) (length (ask_tale x.c x.seen).done.nodes)) (λ r path. HasAssignment files (wrote m.journal c) m.journal c r (Some number_of)) (λ r path w. last-known number_of r counted.0 w.0 w.1) (y.1.served + 1) y.1.batch counted.1)
+          (subst (λ (w : WayMarks). EachNamed files (IsFor files w.wrote) (y.1.served + 1) y.1.batch) (marked-own c)
+          (hand-for k small x o.0 o.1 h.talk h.pend (open-at files x o.0 o.1 h) i epoch env is-env placed y there))
+          (named-weaker files (IsOfLast files (marks_at x) (length (ask_tale x.c x.seen).done.nodes)) (λ r path. HasAssignment files (wrote m.journal c) m.journal c r (Some number_of)) (λ r path w. last-known number_of r path counted.0 w) (y.1.served + 1) y.1.batch counted.1)
 
     -- a Fetch is of another node
     other-asks : (c : ℕ) → IsConnNumber c → (n : ℕ) (bytes : List ℕ) → Was (conn m c) (Node n) (Node i) bytes → (epoch r : ℕ) (path : List ℕ) → SpellsMessage c epoch (body.Fetch r path) bytes → is_touched m.journal c ≡ false → n ≡ i → ⊥
@@ -186,12 +176,23 @@ module _ (m : Machine) (small : m.config.stream ≤ 2 ^ 30) (reached : IsReached
       untouched-still : (c : ℕ) → is_touched base c ≡ is_touched m.journal c
       untouched-still c = fold-append (touched_step c) false m.journal rows_first
 
+      assigned-still : (c : ℕ) → assignments base c ≡ assignments m.journal c
+      assigned-still c = fold-append (assignments_step c) (record { list = []; fresh = false }) m.journal rows_first
+
       -- what is meant before is meant so then
-      still-meant : (c r : ℕ) (path : List ℕ) (ask : Option ℕ) → MeantBy files c m.journal ask r path → MeantBy files c base ask r path
-      still-meant c r path ask h = (
-        subst (λ (q : List ℕ). IsFor files q r path) (sym (wrote-still c)) h.0,
-        subst (λ (q : List ℕ). HasAssignment files q base c r ask) (sym (wrote-still c)) (assigned-past files (wrote m.journal c) m.journal rows_first c r ask h.1),
-      )
+      still-for : (c r : ℕ) (path : List ℕ) → IsFor files (wrote m.journal c) r path → IsFor files (wrote base c) r path
+      still-for c r path h = subst (λ (q : List ℕ). IsFor files q r path) (sym (wrote-still c)) h
+
+      still-assigned : (c r : ℕ) (ask : Option ℕ) (J : List Rec) → HasAssignment files (wrote m.journal c) J c r ask → HasAssignment files (wrote base c) J c r ask
+      still-assigned c r ask J h = subst (λ (q : List ℕ). HasAssignment files q J c r ask) (sym (wrote-still c)) h
+
+      still-meant : (c epoch r : ℕ) (path : List ℕ) (number : ℕ) → MeantFor files c m.journal number r path → MeantBy files i c epoch base (Some number) r path
+      still-meant c epoch r path number h =
+          let w : List ℕ = wrote m.journal c in
+          (still-for c r path h.0, still-assigned c r (Some number) (base ++ []) (assigned-past files w base [] c r (Some number) (assigned-past files w m.journal rows_first c r (Some number) h.1)))
+
+      still-first : (c epoch r : ℕ) (path : List ℕ) → IsAssignedWith files (way_marks m.journal c) r path → MeantBy files i c epoch base None r path
+      still-first c epoch r path h = (still-for c r path h.0, still-assigned c r None (base ++ begins_by i c epoch None) (first-assigned files (wrote m.journal c) m.journal c r rows_first i epoch (assigned-still c) h.1 h.2))
 
       module _ (msg : Message) (reads : decoded_message p.bytes ≡ Ok msg) where
         named : Names p.bytes msg.c
@@ -228,12 +229,12 @@ module _ (m : Machine) (small : m.config.stream ≤ 2 ^ 30) (reached : IsReached
 
         body-known : (from : Place) → p.from ≡ from → (b : Body) → msg.body ≡ b → BodyKnown its base s from msg.c msg.epoch.0 b
         body-known Front is (body.Offer parts) of = λ new u.
-            first-weaker files (MeantBy files msg.c m.journal None) (MeantBy files msg.c base None) (λ r path h. still-meant msg.c r path None h) (parts.served + 1) (batch_of 8 parts.unread)
+            first-weaker files (IsAssignedWith files (way_marks m.journal msg.c)) (MeantBy files i msg.c msg.epoch.0 base None) (λ r path h. still-first msg.c msg.epoch.0 r path h) (parts.served + 1) (batch_of 8 parts.unread)
             (offer-known msg.c msg.epoch.0 named.number p.bytes (letter-sent is) parts (spells (body.Offer parts) of) new (sym (untouched-still msg.c) ∙ u))
         body-known Front is (body.Tag number_of nodes) of = λ y held awaited. record {
           told = tag-told number_of nodes is of y held;
           for = λ u.
-              named-weaker files (MeantBy files msg.c m.journal (Some number_of)) (MeantBy files msg.c base (Some number_of)) (λ r path h. still-meant msg.c r path (Some number_of) h) (y.1.served + 1) y.1.batch
+              named-weaker files (MeantFor files msg.c m.journal number_of) (MeantBy files i msg.c msg.epoch.0 base (Some number_of)) (λ r path h. still-meant msg.c msg.epoch.0 r path number_of h) (y.1.served + 1) y.1.batch
               (tag-known msg.c msg.epoch.0 named.number p.bytes (letter-sent is) number_of nodes (spells (body.Tag number_of nodes) of) y held awaited (sym (untouched-still msg.c) ∙ u));
         }
         body-known (Node n) is (body.Fetch r path) of = λ u same. other-asks msg.c named.number n p.bytes (was m j msg.c p there (Node n) (Node i) is to named.named) msg.epoch.0 r path (spells (body.Fetch r path) of) (sym (untouched-still msg.c) ∙ u) same

@@ -62,6 +62,11 @@ quiets-may files past (r ∷ rs) h = (quiet-may files past r h.0, quiets-may fil
 pub stills-may : (files : FilesAt) (past rs : List Rec) → Each IsStill rs → EachMay (MayHit files) past rs
 stills-may files past rs h = quiets-may files past rs (Each-weaker IsStill IsQuiet (λ r k. k.0) rs h)
 
+-- what a node notes before the first request that starts: where that is assigned for no Ask, it takes the connection
+abbrev pub begins_by : ℕ → ℕ → ℕ → Option ℕ → List Rec
+begins_by n c epoch None = rec.Took (Node n) c (record { 0 = epoch }) ∷ []
+begins_by n c epoch (Some number) = []
+
 -- ---- a node's rules
 
 module _ (env : NodeEnv) (at_node : env.serve.place ≡ Node env.n) (base : List Rec) where
@@ -212,9 +217,12 @@ module _ (env : NodeEnv) (at_node : env.serve.place ≡ Node env.n) (base : List
 
   -- where they are assigned for this Ask
   module _ (ask : Option ℕ) where
+    abbrev start : List Rec
+    start = begins_by n c env.epoch ask
+
     -- It is for this path, and was assigned so.
     abbrev pub IsMeant : ℕ → List ℕ → Type 0
-    IsMeant r path = IsFor files_at (wrote base c) r path × HasAssignment files_at (wrote base c) base c r ask
+    IsMeant r path = IsFor files_at (wrote base c) r path × HasAssignment files_at (wrote base c) (base ++ begins_by n c env.epoch ask) c r ask
 
     -- as long as the schedule did not touch the connection
     abbrev pub ForIf : ℕ → List ℕ → Type 0
@@ -223,6 +231,8 @@ module _ (env : NodeEnv) (at_node : env.serve.place ≡ Node env.n) (base : List
     record Starts (k : Work) (r : ℕ) : Type 0 where
       batch : AreHeld (W (N k)) (k.service.count + 1) k.batch
       silent : AreNoted k.service.notes
+      later : List Rec
+      notes : k.service.notes ≡ start ++ later
       told : WasTold (N k) n c env.epoch ask
       next_is : r ≡ (k.service.count + 1) + length k.batch
 
@@ -237,10 +247,11 @@ module _ (env : NodeEnv) (at_node : env.serve.place ≡ Node env.n) (base : List
       told = h.told;
       for = λ u.
           let all : J ≡ base ++ (k.service.notes ++ more) = is ∙ append_assoc base k.service.notes more in
-          let f : IsMeant r path = for (untouched-before base (k.service.notes ++ more) c (subst (λ (l : List Rec). is_touched l c ≡ false) all u)) in (
+          let f : IsMeant r path = for (untouched-before base (k.service.notes ++ more) c (subst (λ (l : List Rec). is_touched l c ≡ false) all u)) in
+          let now : (base ++ start) ++ h.later ≡ N k = append_assoc base start h.later ∙ ap (λ (l : List Rec). base ++ l) (sym h.notes) in (
             subst (λ (l : List Rec). IsFor files_at (wrote l c) r path) (sym all) (for-later files_at base (k.service.notes ++ more) c r path f.0),
-            subst (λ (l : List Rec). HasAssignment files_at (wrote l c) (N k) c r ask) (sym all)
-                (assigned-on files_at base (k.service.notes ++ more) (N k) c r path ask f.0 (assigned-past files_at (wrote base c) base k.service.notes c r ask f.1)),
+            subst (λ (l : List Rec). HasAssignment files_at (wrote l c) (N k) c r ask) (sym all) (assigned-on files_at base (k.service.notes ++ more) (N k) c r path ask f.0
+                (subst (λ (l : List Rec). HasAssignment files_at (wrote base c) l c r ask) now (assigned-past files_at (wrote base c) (base ++ start) h.later c r ask f.1))),
           );
       stands = stands;
     }
@@ -258,6 +269,8 @@ module _ (env : NodeEnv) (at_node : env.serve.place ≡ Node env.n) (base : List
               (subst (λ (l : List Rec). AreHeld (W l) (k.service.count + 1) (k.batch ++ e ∷ [])) (longer k x ∙ ap (λ (l : List Rec). base ++ l) (sym notes))
               (pushed (W (N k ++ x ∷ [])) (k.service.count + 1) r k.batch e h.next_is (batch-more files_at n c env.epoch (N k) (x ∷ []) (k.service.count + 1) k.batch h.batch) by)));
           silent = subst AreNoted (sym notes) (each_append (MayHit files_at) base k.service.notes (x ∷ []) h.silent.0 (may, tt), Each-append IsOwn k.service.notes (x ∷ []) h.silent.1 (its_own, tt));
+          later = h.later ++ x ∷ [];
+          notes = notes ∙ ap (λ (l : List Rec). l ++ x ∷ []) h.notes ∙ append_assoc start h.later (x ∷ []);
           told = subst (λ (l : List Rec). WasTold l n c env.epoch ask) (longer k x ∙ ap (λ (l : List Rec). base ++ l) (sym notes)) (told-more (N k) (x ∷ []) n c env.epoch ask h.told);
           next_is = let is = h.next_is in let long = ap length batch in omega (arith, is, long, count, length_push k.batch e);
         }
@@ -267,6 +280,8 @@ module _ (env : NodeEnv) (at_node : env.serve.place ≡ Node env.n) (base : List
     stay-starts r e k h by = record {
       batch = pushed (W (N k)) (k.service.count + 1) r k.batch e h.next_is h.batch by;
       silent = h.silent;
+      later = h.later;
+      notes = h.notes;
       told = h.told;
       next_is = let is = h.next_is in omega (arith, is, length_push k.batch e);
     }
@@ -282,7 +297,7 @@ module _ (env : NodeEnv) (at_node : env.serve.place ≡ Node env.n) (base : List
     there-starts : (node r : ℕ) (path : List ℕ) (v : Verdict) (k : Work) → ForIf r path → Starts k r → Starts (started_there node r path v k) (r + 1)
     there-starts node r path v k for h =
         let next = stay-starts r (record { verdict = v; progress = progress.Awaited node }) k h (begun (λ path before later. Unit {0}) r path k [] for h tt (N k) (sym (append-nil (N k)))) in
-        record { batch = next.batch; silent = next.silent; told = next.told; next_is = next.next_is }
+        record { batch = next.batch; silent = next.silent; later = next.later; notes = next.notes; told = next.told; next_is = next.next_is }
 
     started-starts : (node r : ℕ) (path : List ℕ) (v : Verdict) (k : Work) → ForIf r path → Starts k r → Starts (started env node r path v k) (r + 1)
     started-starts node r path v k for h = cond_both (node == env.n) (started_here env r path v k) (started_there node r path v k) (λ (u : Work). Starts u (r + 1)) (λ t. here-starts r path v k for h) (λ t. there-starts node r path v k for h)
@@ -345,15 +360,15 @@ module _ (env : NodeEnv) (at_node : env.serve.place ≡ Node env.n) (base : List
 
     asks-start : (size : ℕ) (paths : List (List ℕ)) (k : Work) → HasStarted k → HasStarted (asks_for env size paths k)
     asks-start size [] k h = h
-    asks-start size (path ∷ paths) k h = (h.0, record { batch = h.1.batch; silent = h.1.silent; told = h.1.told; next_is = h.1.next_is })
+    asks-start size (path ∷ paths) k h = (h.0, record { batch = h.1.batch; silent = h.1.silent; later = h.1.later; notes = h.1.notes; told = h.1.told; next_is = h.1.next_is })
 
     these-start : (used : ℕ) (k : Work) (vs : List Verdict) → FirstFor (k.service.count + 1) vs → Starts k (k.service.count + 1) → HasStarted (state_of (reads_these env true used k vs))
     these-start used k [] for h = cond_both (serving_consumed used k.service).block.recv.fin (record (serving_consumed used k.service) { block = finishing (serving_consumed used k.service).block }) (serving_consumed used k.service) (λ (s : Service). HasStarted (record k { service = s }))
-        (λ t. (k.service.count + 1, record { batch = h.batch; silent = h.silent; told = h.told; next_is = h.next_is })) (λ t. (k.service.count + 1, record { batch = h.batch; silent = h.silent; told = h.told; next_is = h.next_is }))
+        (λ t. (k.service.count + 1, record { batch = h.batch; silent = h.silent; later = h.later; notes = h.notes; told = h.told; next_is = h.next_is })) (λ t. (k.service.count + 1, record { batch = h.batch; silent = h.silent; later = h.later; notes = h.notes; told = h.told; next_is = h.next_is }))
     these-start used k (v ∷ vs) for h =
         let rest : Work = record k { service = serving_consumed used k.service } in
         let all : Work = enters env true (k.service.count + 1) (v ∷ vs) rest in
-        asks-start (length (v ∷ vs)) (named_paths files_at all.batch) all (first-starts (k.service.count + 1) (v ∷ vs) rest for (record { batch = h.batch; silent = h.silent; told = h.told; next_is = h.next_is }))
+        asks-start (length (v ∷ vs)) (named_paths files_at all.batch) all (first-starts (k.service.count + 1) (v ∷ vs) rest for (record { batch = h.batch; silent = h.silent; later = h.later; notes = h.notes; told = h.told; next_is = h.next_is }))
 
     started-hit : (p : NodePart) (before : List (Place × List ℕ)) (k : Work) → HasStarted k → DeedHits (with_work env p before (goes_on env k))
     started-hit p before k h = works-hit k.service.notes h.1.silent p before k (record { batch = h.1.batch; more = []; notes = sym (append-nil k.service.notes); each = tt })
@@ -419,7 +434,7 @@ module _ (env : NodeEnv) (at_node : env.serve.place ≡ Node env.n) (base : List
     tags : (number : ℕ) (nodes : List ℕ) (b : ControlBlock) (s : Stay) → AreHeld (W base) (s.served + 1) s.batch → TagKnown number (b, s)
         → DeedHits (with_work env (record p { kept = without timer.Ask 0 p.kept }) [] (goes_on env (tagged env nodes (work_of b s))))
     tags number nodes b s h k =
-        let begins_so : Starts (Some number) (record (work_of b s) { batch = [] }) (s.served + 1) = record { batch = tt; silent = (tt, tt); told = told-more base [] n c env.epoch (Some number) k.told; next_is = omega arith } in
+        let begins_so : Starts (Some number) (record (work_of b s) { batch = [] }) (s.served + 1) = record { batch = tt; silent = (tt, tt); later = []; notes = refl; told = told-more base [] n c env.epoch (Some number) k.told; next_is = omega arith } in
         started-hit (Some number) (record p { kept = without timer.Ask 0 p.kept }) [] (tagged env nodes (work_of b s))
         (at-starts (Some number) nodes 0 (s.served + 1) s.batch (record (work_of b s) { batch = [] }) begins_so h k.for)
 
@@ -427,7 +442,7 @@ module _ (env : NodeEnv) (at_node : env.serve.place ≡ Node env.n) (base : List
         → DeedHits (with_work env p (taken_sent env) (goes_on env (state_of (reads_batch env true (node_begins env parts)))))
     begins parts for = started-hit None p (taken_sent env) (state_of (reads_batch env true (node_begins env parts)))
         (these-start None (bytes_used 8 parts.unread) (node_begins env parts) (batch_of 8 parts.unread) for
-        (record { batch = tt; silent = ((tt, tt), (tt, tt)); told = has-behind (rec.Took (Node n) c (record { 0 = env.epoch })) base (rec.Took (Node n) c (record { 0 = env.epoch }) ∷ []) (inl refl); next_is = omega arith }))
+        (record { batch = tt; silent = ((tt, tt), (tt, tt)); later = []; notes = refl; told = has-behind (rec.Took (Node n) c (record { 0 = env.epoch })) base (rec.Took (Node n) c (record { 0 = env.epoch }) ∷ []) (inl refl); next_is = omega arith }))
 
     rules_hit : KeptByNode env p MayCome DeedHits
     rules_hit = record {

@@ -8,16 +8,14 @@ use Rattle.lard_laws.proofs.BackingRules.{each-backed}
 use Rattle.lard_law_view.proofs.InSteps.{carried-records}
 use Rattle.lard_laws.specs.WaysState.{marks_of}
 use Rattle.lard_laws.specs.Ways.{WayMarks, way_marks}
+use Rattle.lard_laws.proofs.WaysRuns.{marks-own}
 use Rattle.lard_history.proofs.Lifting.{tale-own}
-use Rattle.lard_history.proofs.Tales.{assigned-tale, served-tale, touched-tale, wrote-tale}
+use Rattle.lard_history.proofs.Tales.{touched-tale}
 use Rattle.lard_journal.specs.declared.rec.Rec.TheVariants as rec
 
 module _ (files : FilesAt) where
   abbrev seen_so : ℕ → List Seen → Rec → Type 0
   seen_so c past r = WhileUntouched (λ c. Mine files c) c past r
-
-  marks-own : (J : List Rec) (c : ℕ) → marks_of (tale_of c (own c J)) ≡ way_marks J c
-  marks-own J c = ap marks_of (sym (tale-own J c)) ∙ (λ i. record { wrote = sym (wrote-tale J c) i; served = sym (served-tale J c) i; assigned = sym (assigned-tale J c) i })
 
   -- the numbers of packets and events say nothing
   plain-back : (m : WayMarks) (r : Rec) → MayBack files m (plain r) → MayBack files m r
@@ -28,7 +26,7 @@ module _ (files : FilesAt) where
   somebody J r c e h d f u =
       let same : c ≡ d = some-number c d (sym e ∙ f) in
       let now : MayBack files (marks_of (tale_of c (own c J))) (plain r) = h (ap (λ (t : Tale). t.touched) (sym (tale-own J c)) ∙ sym (touched-tale J c) ∙ subst (λ (q : ℕ). is_touched J q ≡ false) (sym same) u) in
-      subst (λ (q : ℕ). MayBack files (way_marks J q) r) same (plain-back (way_marks J c) r (subst (λ (m : WayMarks). MayBack files m (plain r)) (marks-own J c) now)) where
+      subst (λ (q : ℕ). MayBack files (way_marks J q) r) same (plain-back (way_marks J c) r (subst (λ (m : WayMarks). MayBack files m (plain r)) (marks-own files J c) now)) where
         some-number : (a b : ℕ) → Some a ≡ Some b → a ≡ b
         some-number a b e = cc
 

@@ -1,46 +1,18 @@
--- What a journal marks of a connection, record by record.
-use Rattle.std.proofs.Common.{◌≡◌, ◌+◌, ℕ, Bool, true, false, cond, nat_eq, List, [], ◌∷◌, ◌++◌, Some, refl, sym, ap, ◌∙◌, subst, append_assoc, append-nil, inl, inr}
-use Rattle.std.specs.Prelude.{◌⊎◌}
-use Rattle.std.proofs.lemmas.Bool.{both_ways, eqb-true}
+-- What a client wrote, record by record, and what a lawful journal says of each record of a connection.
+use Rattle.std.proofs.Common.{◌≡◌, ℕ, Bool, true, false, cond, nat_eq, List, [], ◌∷◌, ◌++◌, Some, refl, sym, ap, ◌∙◌, subst, append_assoc, append-nil}
+use Rattle.std.proofs.lemmas.Bool.{both_ways}
 use Rattle.std.proofs.lemmas.List.Sums.{fold-append}
-use Rattle.lard_law_view.specs.Prelude.{EachMay, FilesAt, Rec, assigned, assigned_step, is_touched, served, served_step, touched_step, whose, wrote, wrote_step}
+use Rattle.lard_law_view.specs.Prelude.{EachMay, FilesAt, Rec, is_touched, touched_step, whose, wrote, wrote_step}
 use Rattle.lard_laws.specs.BackingRequests.{IsFor}
 use Rattle.lard_laws.specs.BackingState.{MayBack}
-use Rattle.lard_laws.proofs.BackingRows.{WritesOn, for-more, marked-on}
-use Rattle.lard_laws.specs.Ways.{WayMarks, way_marks}
-use Rattle.lard_laws.proofs.WaysMarking.{mark}
+use Rattle.lard_laws.proofs.BackingRows.{WritesOn, for-more}
+use Rattle.lard_laws.specs.Ways.{way_marks}
 use Rattle.lard_journal.specs.declared.rec.Rec.TheVariants as rec
 
 -- ---- one record more
 
-marks-more : (J : List Rec) (r : Rec) (c : ℕ) → way_marks (J ++ r ∷ []) c ≡ record { wrote = wrote_step c (wrote J c) r; served = served_step c (served J c) r; assigned = assigned_step c (assigned J c) r }
-marks-more J r c = λ i. record { wrote = fold-append (wrote_step c) [] J (r ∷ []) i; served = fold-append (served_step c) 0 J (r ∷ []) i; assigned = fold-append (assigned_step c) [] J (r ∷ []) i }
-
 touched-more : (J : List Rec) (r : Rec) (c : ℕ) → is_touched (J ++ r ∷ []) c ≡ touched_step c (is_touched J c) r
 touched-more J r c = fold-append (touched_step c) false J (r ∷ [])
-
--- It is of another connection, or of none, and the marks stay; or it is of this one.
-abbrev pub Marked : List Rec → Rec → ℕ → Type 0
-Marked J r c = (way_marks (J ++ r ∷ []) c ≡ way_marks J c) ⊎ ((whose r ≡ Some c) × (way_marks (J ++ r ∷ []) c ≡ mark (way_marks J c) r))
-
-pub marked-by : (J : List Rec) (r : Rec) (c : ℕ) → Marked J r c
-marked-by J (rec.Wrote d bytes) c = go (nat_eq d c) refl where
-  go : (b : Bool) → nat_eq d c ≡ b → Marked J (rec.Wrote d bytes) c
-  go true e = inr (ap Some (eqb-true d c e), marks-more J (rec.Wrote d bytes) c ∙ ap (λ b. record (way_marks J c) { wrote = cond b (wrote J c ++ bytes) (wrote J c) }) e)
-  go false e = inl (marks-more J (rec.Wrote d bytes) c ∙ ap (λ b. record (way_marks J c) { wrote = cond b (wrote J c ++ bytes) (wrote J c) }) e)
-marked-by J (rec.Served place d r code size way) c = go (nat_eq d c) refl where
-  go : (b : Bool) → nat_eq d c ≡ b → Marked J (rec.Served place d r code size way) c
-  go true e = inr (ap Some (eqb-true d c e), marks-more J (rec.Served place d r code size way) c ∙ ap (λ b. record (way_marks J c) { served = cond b (served J c + 1) (served J c) }) e)
-  go false e = inl (marks-more J (rec.Served place d r code size way) c ∙ ap (λ b. record (way_marks J c) { served = cond b (served J c + 1) (served J c) }) e)
-marked-by J (rec.AssignedFirst d r path n add remove) c = go (nat_eq d c) refl where
-  go : (b : Bool) → nat_eq d c ≡ b → Marked J (rec.AssignedFirst d r path n add remove) c
-  go true e = inr (ap Some (eqb-true d c e), marks-more J (rec.AssignedFirst d r path n add remove) c ∙ ap (λ b. record (way_marks J c) { assigned = cond b (assigned J c ++ (path, n) ∷ []) (assigned J c) }) e)
-  go false e = inl (marks-more J (rec.AssignedFirst d r path n add remove) c ∙ ap (λ b. record (way_marks J c) { assigned = cond b (assigned J c ++ (path, n) ∷ []) (assigned J c) }) e)
-marked-by J (rec.AssignedLater d r path n add size queue) c = go (nat_eq d c) refl where
-  go : (b : Bool) → nat_eq d c ≡ b → Marked J (rec.AssignedLater d r path n add size queue) c
-  go true e = inr (ap Some (eqb-true d c e), marks-more J (rec.AssignedLater d r path n add size queue) c ∙ ap (λ b. record (way_marks J c) { assigned = cond b (assigned J c ++ (path, n) ∷ []) (assigned J c) }) e)
-  go false e = inl (marks-more J (rec.AssignedLater d r path n add size queue) c ∙ ap (λ b. record (way_marks J c) { assigned = cond b (assigned J c ++ (path, n) ∷ []) (assigned J c) }) e)
-marked-by J r c = inl (marks-more J r c)
 
 -- what is untouched was untouched before
 untouched-one : (J : List Rec) (r : Rec) (c : ℕ) → is_touched (J ++ r ∷ []) c ≡ false → is_touched J c ≡ false
@@ -55,11 +27,15 @@ untouched-before J [] c u = subst (λ (K : List Rec). is_touched K c ≡ false) 
 untouched-before J (r ∷ rs) c u = untouched-one J r c (untouched-before (J ++ r ∷ []) rs c (subst (λ (K : List Rec). is_touched K c ≡ false) (sym (append_assoc J (r ∷ []) rs)) u))
 
 -- a client only writes on
+writes-step : (c : ℕ) (bytes : List ℕ) (r : Rec) → WritesOn bytes (wrote_step c bytes r)
+writes-step c bytes (rec.Wrote d more) = go (nat_eq d c) where
+  go : (b : Bool) → WritesOn bytes (cond b (bytes ++ more) bytes)
+  go true = (more, refl)
+  go false = ([], sym (append-nil bytes))
+writes-step c bytes _ = ([], sym (append-nil bytes))
+
 writes-one : (J : List Rec) (r : Rec) (c : ℕ) → WritesOn (wrote J c) (wrote (J ++ r ∷ []) c)
-writes-one J r c = go (marked-by J r c) where
-  go : Marked J r c → WritesOn (wrote J c) (wrote (J ++ r ∷ []) c)
-  go (inl e) = ([], ap (λ (m : WayMarks). m.wrote) e ∙ sym (append-nil (wrote J c)))
-  go (inr e) = let w = marked-on (way_marks J c) (r ∷ []) in (w.0, ap (λ (m : WayMarks). m.wrote) e.1 ∙ w.1)
+writes-one J r c = subst (WritesOn (wrote J c)) (sym (fold-append (wrote_step c) [] J (r ∷ []))) (writes-step c (wrote J c) r)
 
 pub writes-on : (J rs : List Rec) (c : ℕ) → WritesOn (wrote J c) (wrote (J ++ rs) c)
 writes-on J [] c = ([], ap (λ (K : List Rec). wrote K c) (append-nil J) ∙ sym (append-nil (wrote J c)))

@@ -3,13 +3,13 @@ use Rattle.std.proofs.Common.{◌≡◌, ◌≤◌, ◌<◌, ◌+◌, ◌-◌, �
 use Rattle.std.specs.List.{slice_get}
 use Rattle.std.proofs.lemmas.List.{length_push}
 use Rattle.std.proofs.lemmas.Option.{slice_get_within}
-use Rattle.lard_law_view.specs.Prelude.{Entry, FilesAt, NodeEnv, Progress, Rec, Verdict, and_path, good_path, named_paths, path_in, verdicts, wrote}
+use Rattle.lard_law_view.specs.Prelude.{Entry, FilesAt, Progress, Rec, Verdict, and_path, good_path, named_paths, path_in, verdicts, wrote}
 use Rattle.lard_base.specs.declared.place.Via.TheVariants as via
 use Rattle.lard_laws.proofs.BackingAssignments.{HasAssignment}
 use Rattle.lard_laws.specs.BackingRequests.{IsFor}
 use Rattle.lard_laws.specs.BackingTold.{files_before}
 use Rattle.lard_laws.proofs.BackingMarks.{writes-on}
-use Rattle.lard_laws.proofs.BackingTurns.{AreAt, EachNamed, IsHome}
+use Rattle.lard_laws.proofs.BackingTurns.{AreAt, EachNamed}
 use Rattle.lard_laws.specs.WaysUnder.{Assigned, Lies, TakesFirstAssigned, Under}
 use Rattle.lard_laws.specs.Ways.{WayMarks, good_paths}
 use Rattle.lard_laws.proofs.WaysGoods.{answered-grow, good-append}
@@ -29,7 +29,7 @@ module _ (files : FilesAt) where
   assigned-on J rs past c r path ask for h =
       let w = writes-on J rs c in
       subst (λ (q : List ℕ). HasAssignment files q past c r ask) (sym w.1)
-      (record { before = h.before; its = h.its; behind = h.behind; split = h.split; assigns = h.assigns; place = h.place ∙ sym (before-more (wrote J c) w.0 r path for) })
+      (record { before = h.before; its = h.its; behind = h.behind; split = h.split; made = h.made; assigns = h.assigns; place = h.place ∙ sym (before-more (wrote J c) w.0 r path for); lasts = h.lasts })
 
 -- ---- one request more
 
@@ -60,10 +60,7 @@ module _ (files : FilesAt) (wrote_now : List ℕ) where
 
 -- ---- a batch
 
-module _ (env : NodeEnv) (m : WayMarks) (at_home : IsHome env m) (home lo hi : ℕ) where
-  abbrev files : FilesAt
-  files = env.serve.files
-
+module _ (files : FilesAt) (m : WayMarks) (home lo hi : ℕ) where
   abbrev before : ℕ → ℕ
   before r = files_before files m.wrote r
 
@@ -75,7 +72,7 @@ module _ (env : NodeEnv) (m : WayMarks) (at_home : IsHome env m) (home lo hi : �
   GoesOn r es = (us : List Assigned) → Under files home es us → lo ≤ before r + length us → (before r + length us) + length (named_paths files es) ≤ hi → EachNamed files IsWithin r es
 
   -- those that were only read stand behind all that started
-  pub named-within : (r : ℕ) (es : List Entry) (us : List Assigned) → AreAt env m at_home r es → Under files home es us → lo ≤ before r + length us → (before r + length us) + length (named_paths files es) ≤ hi → EachNamed files IsWithin r es
+  pub named-within : (r : ℕ) (es : List Entry) (us : List Assigned) → AreAt m.wrote r es → Under files home es us → lo ≤ before r + length us → (before r + length us) + length (named_paths files es) ≤ hi → EachNamed files IsWithin r es
   named-within r [] us at lies low high = tt
   named-within r (e ∷ es) us at lies low high =
       go (good_path files e.verdict) refl e.progress us lies low high (before-next files m.wrote r at.0.0 e.verdict at.0.1 at.0.2) (λ vs l a b. named-within (r + 1) es vs at.1 l a b) where

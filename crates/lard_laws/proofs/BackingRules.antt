@@ -1,12 +1,12 @@
 -- Each rule leaves what is said of a connection's requests right, so it is in every run.
-use Rattle.std.proofs.Common.{◌≡◌, ◌≤◌, ◌^◌, ℕ, false, List, [], ◌∷◌, ◌++◌, ◌+◌, refl, sym, ◌∙◌, subst}
+use Rattle.std.proofs.Common.{◌≡◌, ◌≤◌, ◌^◌, ℕ, false, List, [], ◌∷◌, ◌++◌, ◌+◌, length, refl, sym, ◌∙◌, subst}
 use Rattle.lard_law_view.specs.Prelude.{AreSent, Client, ClientRules, Completed, Config, Conn, ControlBlock, EachRow, FilesAt, FrontRules, Guarded, IsGuardedLaw, IsNodeEnv, MayRestOn, Move, Node, NodeDeed, NodeEnv, NodeGets, NodePart, NodeRules, OfEach, Place, Rec, Seen, Setting, Stay, Untouched, UntouchedRules, Work, after_timer, again_sent, brought_said, came_for, come_progress, content_bytes, content_said, file_at, goes_on, gone, grown, node_does, node_fired, node_saying, nothing_said, offered_by, on_segment, packet_seen, read_progress, seen_in, serving, serving_ready_of, setting, spoken, stands, tagged, taken_sent, tale_at, timed, with_work, without, work_of}
 use Rattle.lard_base.specs.declared.place.TimerKind.TheVariants as timer
 use Rattle.lard_laws.specs.BackingState.{FetchesFor, LetterFor, SaysFor}
 use Rattle.lard_laws.proofs.BackingFronts.{front-makes}
 use Rattle.lard_laws.proofs.BackingMoving.{Keeps, again-for, content-for, nodes-for, makes, others-for}
-use Rattle.lard_laws.proofs.BackingNodes.{came-clean, deed-makes, fired-back, fresh, goes-back, hand-at, home, still-makes}
-use Rattle.lard_laws.proofs.BackingTurns.{AreAt, Clean, DeedBacks, IsHome, IsSteady, SaidFor, tagged-clean}
+use Rattle.lard_laws.proofs.BackingNodes.{came-clean, deed-makes, fired-back, fresh, goes-back, hand-at, most-written, still-makes}
+use Rattle.lard_laws.proofs.BackingTurns.{AreAt, Clean, DeedBacks, IsSteady, SaidFor, tagged-clean}
 use Rattle.lard_laws.proofs.NodeHere.{here-of}
 use Rattle.lard_laws.proofs.NodeStays.{StayHolds, stay-holds}
 use Rattle.lard_laws.proofs.WaysHomes.{sent-append}
@@ -95,36 +95,36 @@ module _ (k : Setting) (small : k.stream ≤ 2 ^ 30) where
         → Each (λ s. SaysFor env.serve.files marks.wrote (Node n) s.0 s.1) (again_sent ours)
     again-said kept fetches old = again-for env.serve.files x n (ours.kept ++ ours.fetches) (sent-append x (Node n) ours.kept ours.fetches kept fetches) old
 
-    -- where it is here, it is at its home
+    -- where it is here
     does-here : (b : ControlBlock) (t : Stay) → IsHereWith env.epoch ours b t → (d : NodeDeed)
-        → ((h : IsHome env marks) → AreAt env marks h (t.served + 1) t.batch → Each (SaidFor env marks h) (again_sent ours) → DeedBacks env marks h d) → After d
+        → (length marks.wrote ≤ 2 ^ 30 → AreAt marks.wrote (t.served + 1) t.batch → Each (SaidFor env marks) (again_sent ours) → DeedBacks env marks d) → After d
     does-here b t at d knows help g old =
         let y : StayHolds k small x truth n epoch env is b t = stay-holds k small x truth n epoch env is help.placed b t at in
-        let h : IsHome env marks = home k small x y.station y.there truth.talk truth.pend y.opened n epoch env is y.it help.placed g in
-        let again : Each (SaidFor env marks h) (again_sent ours) = subst (λ (i : ℕ). Each (λ s. SaysFor env.serve.files marks.wrote (Node i) s.0 s.1) (again_sent ours)) (sym is.node) (again-said (help.sound.kept n) (help.sound.fetches n) old) in
-        deed-makes env x n is.node h heads first steady d
-        (knows h (hand-at k small x y.station y.there truth.talk truth.pend y.opened n epoch env is y.it help.placed h (b, t) (here-of env.epoch ours b t at)) again) help g old
+        let again : Each (SaidFor env marks) (again_sent ours) = subst (λ (i : ℕ). Each (λ s. SaysFor env.serve.files marks.wrote (Node i) s.0 s.1) (again_sent ours)) (sym is.node) (again-said (help.sound.kept n) (help.sound.fetches n) old) in
+        deed-makes env x n is.node heads first steady d
+        (knows (most-written k small x y.station y.there truth.talk truth.pend y.opened n epoch env is)
+        (hand-at k small x y.station y.there truth.talk truth.pend y.opened n epoch env is y.it help.placed (b, t) (here-of env.epoch ours b t at)) again) help g old
 
     turns : (b : ControlBlock) (t : Stay) → IsHereWith env.epoch ours b t → (q : NodePart) (w : Work)
-        → ((h : IsHome env marks) → AreAt env marks h (t.served + 1) t.batch → Clean env marks h w) → After (with_work env q [] (goes_on env w))
-    turns b t at q w clean = does-here b t at (with_work env q [] (goes_on env w)) (λ h are again. goes-back env marks h ours q w (clean h are))
+        → (length marks.wrote ≤ 2 ^ 30 → AreAt marks.wrote (t.served + 1) t.batch → Clean env marks w) → After (with_work env q [] (goes_on env w))
+    turns b t at q w clean = does-here b t at (with_work env q [] (goes_on env w)) (λ most are again. goes-back env marks most ours q w (clean most are))
 
     rules_keep : KeptByNode env ours Comes After
     rules_keep = record {
       drops = still-makes env.serve.files x n heads first steady;
-      hears = λ said b t m at. turns b t at ours (work_of (on_segment b said).1 t) (λ h are. fresh env marks h ours (on_segment b said).1 t);
+      hears = λ said b t m at. turns b t at ours (work_of (on_segment b said).1 t) (λ most are. fresh env marks most ours (on_segment b said).1 t);
       tags = λ number nodes b t m at asked same count. turns b t at (record ours { kept = without timer.Ask 0 ours.kept }) (tagged env nodes (work_of b t))
-          (λ h are. tagged-clean env marks h nodes (work_of b t) are (fresh env marks h ours b t));
+          (λ most are. tagged-clean env marks most nodes (work_of b t) are (fresh env marks most ours b t));
       comes = λ from r b t m at wanted.
-          turns b t at (record ours { fetches = without timer.Fetch r ours.fetches }) (came_for (come_progress from) r (work_of b t)) (λ h are. came-clean env marks h ours (come_progress from) r b t);
-      reads = λ r path b t m at. turns b t at ours (came_for read_progress r (work_of b t)) (λ h are. came-clean env marks h ours read_progress r b t);
+          turns b t at (record ours { fetches = without timer.Fetch r ours.fetches }) (came_for (come_progress from) r (work_of b t)) (λ most are. came-clean env marks most ours (come_progress from) r b t);
+      reads = λ r path b t m at. turns b t at ours (came_for read_progress r (work_of b t)) (λ most are. came-clean env marks most ours read_progress r b t);
       begins = λ parts m new.
           let s = opened-at k.files x truth (front-opens x n m.0.bytes m.0.was) in
           alone m.1 (offered_by env parts ours New) (new-makes k small x s.0 s.1 truth.talk truth.pend (open-at k.files x s.0 s.1 truth) n epoch env is parts m.0.bytes m.0.spells m.0.was heads new);
       takes_again = λ parts m again. alone m.1 (Says (taken_sent env)) (makes env.serve.files x (node_does x n heads (Says (taken_sent env))) tt tt (tt, tt));
       fires = λ b t m at.
           does-here b t at (Does (node_fired env ours (b, t) (spoken env.serve (serving (after_timer b) t.served []) (serving_ready_of env.serve (after_timer b) (timed b)))))
-          (λ h are again. fired-back env marks h ours again b t);
+          (λ most are again. fired-back env marks most ours again b t);
       resends = λ m none. alone m.1 (Says (again_sent ours))
           (λ help g old. makes env.serve.files x (node_does x n heads (Says (again_sent ours))) tt tt (nodes-for env.serve.files marks.wrote n (again_sent ours) (again-said (help.sound.kept n) (help.sound.fetches n) old)) help g old);
       ends = λ m told. alone m.1 (Does (record ours { row = gone ours.row; kept = without timer.Ended 0 ours.kept }, node_saying []))

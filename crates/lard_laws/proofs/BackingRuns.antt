@@ -1,21 +1,24 @@
 -- What each connection's records say of its requests, the journal says.
-use Rattle.std.proofs.Common.{◌≡◌, ◌≤◌, ◌^◌, ℕ, List, [], ◌∷◌, Some, refl, sym, ap, subst, inl, inr}
+use Rattle.std.proofs.Common.{◌≡◌, ◌≤◌, ◌^◌, ℕ, List, [], ◌∷◌, length, Some, refl, sym, ap, ◌∙◌, subst, inl, inr}
+use Rattle.std.proofs.lemmas.List.{length-map}
 use Rattle.std.specs.Prelude.{◌⊎◌}
-use Rattle.lard_law_view.specs.Prelude.{Config, Conn, FilesAt, Has, IsConnNumber, IsReached, Machine, Rec, Row, blank_conn, conn, file_at, net_of, net_step, own, plain, seen_of, seen_on, whose}
-use Rattle.lard_laws.specs.BackingRequests.{MayName}
+use Rattle.lard_law_view.specs.Prelude.{Config, Conn, FilesAt, Has, IsConnNumber, IsReached, Machine, Rec, Row, assigned, blank_conn, conn, file_at, net_of, net_step, own, plain, seen_of, seen_on, whose}
+use Rattle.lard_laws.specs.BackingRequests.{MayAnswerFrom, MayName}
 use Rattle.lard_laws.specs.BackingRuns.{JobsStartWhenTold, JournalsNameRequests, PlacesAnswer, ResponsesAreBacked}
-use Rattle.lard_laws.proofs.BackingAnswering.{places-answer}
+use Rattle.lard_laws.proofs.BackingAnswering.{answers-from}
 use Rattle.lard_laws.proofs.BackingContents.{Known, all-backed}
 use Rattle.lard_laws.proofs.BackingStarting.{all-start}
-use Rattle.lard_laws.proofs.BackingFinding.{Stands, has-stands}
+use Rattle.lard_laws.proofs.BackingFinding.{Stands, each-from, has-stands}
 use Rattle.lard_laws.proofs.BackingHits.{reached-hit}
 use Rattle.lard_laws.proofs.BackingMarked.{marks-lawful}
-use Rattle.lard_laws.proofs.BackingMarks.{MayMark}
+use Rattle.lard_laws.proofs.BackingMarks.{MayMark, each-at}
 use Rattle.lard_law_connections.proofs.StoresDisks.{disks-read}
 use Rattle.lard_law_connections.proofs.StoresStored.{lawful}
+use Rattle.lard_law_connections.specs.BytesRecords.{MayServeOwned}
 use Rattle.lard_law_connections.proofs.BytesRuns.{journals-serve}
 use Rattle.lard_law_view.proofs.After.{IsAfter, step-after}
 use Rattle.lard_law_view.proofs.Carried.{carried-keep, reached-viewed}
+use Rattle.lard_laws.specs.Ways.{MayComeThisWay}
 use Rattle.lard_laws.proofs.WaysRuns.{assign-in-order, contents-come}
 use Rattle.lard_laws.proofs.WaysSteps.{contents-are-files}
 use Rattle.lard_history.proofs.Each.{each_weaker}
@@ -25,7 +28,9 @@ use Rattle.lard_journal.specs.declared.rec.Rec.TheVariants as rec
 
 module _ (files : FilesAt) where
   names : (past : List Rec) (r : Rec) → MayMark files past r → MayName files past r
-  names past (rec.AssignedFirst c r path n add remove) may = λ u. may c refl u
+  names past (rec.AssignedFirst c r path n add remove) may = λ u.
+      let h = may c refl u in
+      (sym (length-map (assigned past c) (λ a. a.0)) ∙ ap length h.0, h.1, h.2)
   names past (rec.Queued n m c r path) may = λ u. (may c refl u).0
   names past _ may = tt
 
@@ -33,7 +38,11 @@ pub requests-named : JournalsNameRequests
 requests-named config files m small r = each_weaker (MayMark (file_at files)) (MayName (file_at files)) (names (file_at files)) [] m.journal (marks-lawful config files m small r)
 
 pub home-answers : PlacesAnswer
-home-answers config files m small r = places-answer (file_at files) m.journal (marks-lawful config files m small r) (contents-come config files m small r)
+home-answers config files m small r =
+    let fs : FilesAt = file_at files in
+    each-from (MayAnswerFrom fs) m.journal (λ a b x is. answers-from fs a x
+    (each-at (MayServeOwned fs) m.journal a b x is (journals-serve config files m small r))
+    (each-at (MayComeThisWay fs) m.journal a b x is (contents-come config files m small r)))
 
 -- ---- what was read or came
 

@@ -5,14 +5,13 @@ use Rattle.lard_law_view.specs.Prelude.{EachMay, FilesAt, Rec, Verdict, and_path
 use Rattle.lard_laws.specs.BackingRequests.{IsFor, NodeIsTold, MayStart}
 use Rattle.lard_laws.specs.BackingState.{MayBack}
 use Rattle.lard_laws.specs.BackingTold.{AssignsFor, WasTold, files_before}
-use Rattle.lard_laws.proofs.BackingAssignments.{HasAssignment, IsMadeFor}
+use Rattle.lard_laws.proofs.BackingAssignments.{HasAssignment}
 use Rattle.lard_laws.proofs.BackingContents.{Known}
 use Rattle.lard_laws.proofs.BackingFinding.{Stands, each-from, has-stands, job-queued}
 use Rattle.lard_laws.proofs.BackingHeld.{Anything, Started, started-more, told-more}
 use Rattle.lard_laws.proofs.BackingHitting.{MayHit}
 use Rattle.lard_laws.proofs.BackingMarks.{MayMark, each-at, for-later, untouched-before, writes-on}
 use Rattle.lard_law_connections.specs.StoresLaws.{MayStore}
-use Rattle.lard_laws.specs.WaysUnder.{Assigned}
 use Rattle.lard_laws.specs.Ways.{AreAssignedInOrder, IsNextGood, MayBeAssigned, good_paths, way_marks}
 use Rattle.lard_laws.proofs.WaysGoods.{get-front, wanted-grow}
 use Rattle.lard_journal.specs.declared.rec.Rec.TheVariants as rec
@@ -47,11 +46,13 @@ module _ (files : FilesAt) where
       ap (λ (q : List ℕ). slice_get (good_paths files (verdicts q)) (length (assigned J c))) w.1 ∙ ap (λ (ps : List (List ℕ)). slice_get ps (length (assigned J c))) g.1
       ∙ get-front (good_paths files (verdicts (wrote J c))) g.0 (length (assigned J c)) p h
 
-  -- the record that is made for an Ask assigns the next good request
-  its-path : (past : List Rec) (c : ℕ) (ask : Option ℕ) (its : Rec) → IsMadeFor past c ask its → (is_touched past c ≡ false) → MayBeAssigned files past its → (y : Assigned) × IsNextGood files (way_marks past c) y.0 × AssignsFor past c y.0 y.1 ask its
-  its-path past c ask (rec.AssignedFirst d r path n add remove) h u may = ((path, n), subst (λ (q : ℕ). is_touched past q ≡ false → IsNextGood files (way_marks past q) path) h.0 may u, (h.0, refl, refl, h.1))
-  its-path past c ask (rec.AssignedLater d r path n add size queue) h u may = ((path, n), subst (λ (q : ℕ). is_touched past q ≡ false → IsNextGood files (way_marks past q) path) h.0 may u, (h.0, refl, refl, h.1))
-  its-path past c ask _ h u may = absurd h
+  -- the record that assigns it assigns the next good request
+  its-path : (past : List Rec) (c node : ℕ) (path : List ℕ) (ask : Option ℕ) (its : Rec) → AssignsFor past c path node ask its → is_touched past c ≡ false → MayBeAssigned files past its → IsNextGood files (way_marks past c) path
+  its-path past c node path ask (rec.AssignedFirst d r p n add remove) h u may =
+      subst (IsNextGood files (way_marks past c)) h.1 (subst (λ (q : ℕ). is_touched past q ≡ false → IsNextGood files (way_marks past q) p) h.0 may u)
+  its-path past c node path ask (rec.AssignedLater d r p n add size queue) h u may =
+      subst (IsNextGood files (way_marks past c)) h.1 (subst (λ (q : ℕ). is_touched past q ≡ false → IsNextGood files (way_marks past q) p) h.0 may u)
+  its-path past c node path ask _ h u may = absurd h
 
 -- ---- a lawful journal
 
@@ -63,20 +64,20 @@ module _ (files : FilesAt) (limit : ℕ) (J : List Rec) (known : Known files lim
       let start : a ≡ h.before ++ h.its ∷ (h.behind ++ s.later) = s.split ∙ ap (λ (l : List Rec). l ++ s.later) h.split ∙ append_assoc h.before (h.its ∷ h.behind) s.later in
       let whole : J ≡ h.before ++ h.its ∷ ((h.behind ++ s.later) ++ b) = is ∙ ap (λ (l : List Rec). l ++ b) start ∙ append_assoc h.before (h.its ∷ (h.behind ++ s.later)) b in
       let clean : is_touched h.before c ≡ false = untouched-before h.before (h.its ∷ (h.behind ++ s.later)) c (subst (λ (l : List Rec). is_touched l c ≡ false) start u) in
-      let y = its-path files h.before c s.ask h.its h.assigns clean (each-at (MayBeAssigned files) J h.before ((h.behind ++ s.later) ++ b) h.its whole order) in
-      let found : slice_get (good_paths files (verdicts (wrote a c))) (length (assigned h.before c)) ≡ Some y.0.0 =
-      subst (λ (l : List Rec). slice_get (good_paths files (verdicts (wrote l c))) (length (assigned h.before c)) ≡ Some y.0.0) (sym start) (next-at files h.before (h.its ∷ (h.behind ++ s.later)) c y.0.0 y.1) in
-      let same : y.0.0 ≡ path = some-same y.0.0 path (sym found ∙ ap (slice_get (good_paths files (verdicts (wrote a c)))) h.place ∙ for-at files (wrote a c) r path for) in
+      let next = its-path files h.before c h.made.1 h.made.0 s.ask h.its h.assigns clean (each-at (MayBeAssigned files) J h.before ((h.behind ++ s.later) ++ b) h.its whole order) in
+      let found : slice_get (good_paths files (verdicts (wrote a c))) (length (assigned h.before c)) ≡ Some h.made.0 =
+      subst (λ (l : List Rec). slice_get (good_paths files (verdicts (wrote l c))) (length (assigned h.before c)) ≡ Some h.made.0) (sym start) (next-at files h.before (h.its ∷ (h.behind ++ s.later)) c h.made.0 next) in
+      let same : h.made.0 ≡ path = some-same h.made.0 path (sym found ∙ ap (slice_get (good_paths files (verdicts (wrote a c)))) h.place ∙ for-at files (wrote a c) r path for) in
       record {
         epoch = epoch;
         ask = s.ask;
-        node = y.0.1;
+        node = h.made.1;
         assigned = record {
           before = h.before;
           its = h.its;
           behind = h.behind ++ s.later;
           split = start;
-          assigns = subst (λ (p : List ℕ). AssignsFor h.before c p y.0.1 s.ask h.its) same y.2;
+          assigns = subst (λ (p : List ℕ). AssignsFor h.before c p h.made.1 s.ask h.its) same h.assigns;
           place = h.place;
         };
         told = subst (λ (l : List Rec). WasTold l n c epoch s.ask) (sym s.split) (told-more s.before s.later n c epoch s.ask s.told);

@@ -10,9 +10,9 @@ use Rattle.lard_laws.specs.Asks.{Answered, ask_tale}
 use Rattle.lard_laws.proofs.AsksAsked.{with-told}
 use Rattle.lard_laws.proofs.AsksMoving.{IsTold, Told}
 use Rattle.lard_laws.specs.BackingTold.{files_before}
-use Rattle.lard_laws.proofs.BackingNodes.{IsIt, hand-at, hand-counted, home}
+use Rattle.lard_laws.proofs.BackingNodes.{IsIt, hand-at, hand-counted}
 use Rattle.lard_laws.proofs.BackingNumbers.{IsWithin, named-within}
-use Rattle.lard_laws.proofs.BackingTurns.{EachNamed, IsHome, named-weaker}
+use Rattle.lard_laws.proofs.BackingTurns.{EachNamed, named-weaker}
 use Rattle.lard_law_connections.specs.BytesAgreement.{IsOpen}
 use Rattle.lard_law_connections.proofs.BytesClientMoves.{has-fair}
 use Rattle.lard_law_connections.proofs.BytesNodeMoves.{HasIt}
@@ -91,7 +91,7 @@ module _ (k : Setting) (small : k.stream ≤ 2 ^ 30) (x : Conn) (s : Station) (t
       stays y held =
           let has : HasIt x l pend o.seat placed n env.epoch = (it placed).0 in
           let h : AtHome files m r n p = at-home files x g n has.row has.found has.at has.decided in
-          subst (StayWays files n m r) (stay-of _ p.stay y held) h.stay
+          subst (StayWays files n m r) (stay-of _ p.stay y held) h.has.stay
 
       by-asking : (y : ControlBlock × Stay) → here env.epoch p ≡ Some y → (q : StayGoes files n m r y.1) → (y.1.asks ≡ number) → length nodes ≡ length (named_paths files y.1.batch) → IsAsking files m r y.1 q.gone q.under → IsCounted number y
       by-asking y held q asked long (inr a) = let more = tag-is.0 in let last = a.0 in absurd (omega (arith, more, asked, last))
@@ -108,11 +108,10 @@ module _ (k : Setting) (small : k.stream ≤ 2 ^ 30) (x : Conn) (s : Station) (t
           let first : (y.1.served + 1) - 1 ≡ m.served = omega (arith, served) in
           let before : files_before files m.wrote (y.1.served + 1) ≡ length q.gone =
           ap (λ (i : ℕ). length (good_paths files (take i (verdicts m.wrote)))) first ∙ ap length (sym q.walked) ∙ length-map q.gone (λ a. a.0) in
-          let h : IsHome env m = home k small x s there l pend o n epoch env is it placed g in
-          let within : EachNamed files (IsWithin env m h n lo (length m.assigned)) (y.1.served + 1) y.1.batch =
-          named-within env m h n lo (length m.assigned) (y.1.served + 1) y.1.batch q.under (hand-at k small x s there l pend o n epoch env is it placed h y held) q.lies (omega (arith, before)) (omega (arith, before, all)) in (
+          let within : EachNamed files (IsWithin files m n lo (length m.assigned)) (y.1.served + 1) y.1.batch =
+          named-within files m n lo (length m.assigned) (y.1.served + 1) y.1.batch q.under (hand-at k small x s there l pend o n epoch env is it placed y held) q.lies (omega (arith, before)) (omega (arith, before, all)) in (
             last ∙ kept.0,
-            named-weaker files (IsWithin env m h n lo (length m.assigned)) (IsOfLast files m (length d.nodes)) (λ i path w. let low = w.0 in (omega (arith, low, all, nodes_of), w.1)) (y.1.served + 1) y.1.batch within,
+            named-weaker files (IsWithin files m n lo (length m.assigned)) (IsOfLast files m (length d.nodes)) (λ i path w. let low = w.0 in (omega (arith, low, all, nodes_of), w.1)) (y.1.served + 1) y.1.batch within,
           )
 
       counts-here : (y : ControlBlock × Stay) → here env.epoch p ≡ Some y → is_tag_awaited env number nodes p y.1 ≡ true → IsCounted number y

@@ -1,10 +1,10 @@
--- What a turn of a node notes and says: it answers as the home, and each request that it starts is for its path.
+-- What a turn of a node notes and says: each request that it starts is for its path.
 use Rattle.std.proofs.Common.{◌≡◌, ◌≤◌, ◌+◌, ◌^◌, ◌==◌, nat_lt, ℕ, Bool, true, false, List, [], ◌∷◌, ◌++◌, map, length, slice_get, Option, Some, None, refl, sym, ap, ◌∙◌, subst, arith, append_assoc, eq-eqb, ◌≢◌}
 use Rattle.std.proofs.lemmas.Bool.{both_ways, cond_both}
 use Rattle.std.proofs.lemmas.List.{length_push}
-use Rattle.lard_law_view.specs.Prelude.{Asked, Client, Done, Ending, Entry, FilesAt, Front, IsPrefix, More, Next, Node, NodeDeed, NodeEnv, NodePart, NodeTurn, Place, Progress, Rec, Service, Step, Turn, Verdict, Via, Want, Work, all_sent, answer, answer_code, asked_sent, asks_for, batch_of, bytes_used, ended_sent, entered, enters, enters_first, fetch_of, finishing, goes_on, good_path, kept_after, named_path, named_paths, next_of, passed_over, path_in, queued, read_entry, reads_these, serves_by, serves_first, serves_with, serving_consumed, serving_settled, started, started_here, started_there, starts_at, starts_named, starts_one, state_of, stay_turn, tagged, turn_by, turned, verdicts, wants_sent, with_work, work_left}
+use Rattle.lard_law_view.specs.Prelude.{Asked, Client, Done, Ending, Entry, FilesAt, IsPrefix, More, Next, Node, NodeDeed, NodeEnv, NodePart, NodeTurn, Place, Progress, Rec, Service, Step, Turn, Verdict, Want, Work, all_sent, answer, answer_code, asked_sent, asks_for, batch_of, bytes_used, ended_sent, entered, enters, enters_first, fetch_of, finishing, goes_on, good_path, kept_after, named_path, named_paths, next_of, passed_over, path_in, queued, read_entry, reads_these, serves_by, serves_first, serves_with, serving_consumed, serving_settled, started, started_here, started_there, starts_at, starts_named, starts_one, state_of, stay_turn, tagged, turn_by, turned, verdicts, wants_sent, with_work, work_left}
 use Rattle.lard_laws.specs.BackingRequests.{IsFor}
-use Rattle.lard_laws.specs.BackingState.{BodyFor, MayBack, SaysFor, StartsAt}
+use Rattle.lard_laws.specs.BackingState.{BodyFor, MayBack, SaysFor}
 use Rattle.lard_laws.proofs.BackingRows.{Backs}
 use Rattle.lard_laws.proofs.BackingSpelled.{fetch-reads, number-small, path-short}
 use Rattle.lard_law_connections.proofs.PlacesLoops.{settled-is}
@@ -20,12 +20,11 @@ use Rattle.lard_rules.specs.declared.places.Ending.TheVariants as ending
 use Rattle.lard_rules.proofs.Runs.{runs_keep}
 use Rattle.lard_law_view.proofs.EndpointSends.{AllTo}
 
--- ---- records that leave what was assigned and written
+-- ---- records that leave what was written, and are no first assignment
 
 abbrev pub IsUnmarked : Rec → Type 0
 IsUnmarked (rec.Wrote d bytes) = ⊥
 IsUnmarked (rec.AssignedFirst d r path n add remove) = ⊥
-IsUnmarked (rec.AssignedLater d r path n add size queue) = ⊥
 IsUnmarked _ = Unit {0}
 
 abbrev pub IsSteady : FilesAt → WayMarks → Rec → Type 0
@@ -65,45 +64,57 @@ module _ (files : FilesAt) (P Q : ℕ → List ℕ → Type 0) where
     go (Some path) h later = f r path h
 
 module _ (files : FilesAt) (m : WayMarks) where
-  -- what was assigned and written is as in m
-  pub record IsLike (k : WayMarks) : Type 0 where
-    pub assigned : k.assigned ≡ m.assigned
-    pub wrote : k.wrote ≡ m.wrote
-
-  like-may : (k : WayMarks) → IsLike k → (r : Rec) → IsSteady files m r → MayBack files k r
-  like-may k like (rec.Served Front d r code size way) h = like.assigned ∙ h.1
-  like-may k like (rec.Served (Node n) d r code size way) h = subst (StartsAt n) (sym like.assigned) h.1
-  like-may k like (rec.Served (Client e) d r code size way) h = h.1
-  like-may k like (rec.Wrote d bytes) h = absurd h.0
+  -- where as much was written
+  like-may : (k : WayMarks) → k.wrote ≡ m.wrote → (r : Rec) → IsSteady files m r → MayBack files k r
   like-may k like (rec.AssignedFirst d r path n add remove) h = absurd h.0
-  like-may k like (rec.AssignedLater d r path n add size queue) h = absurd h.0
-  like-may k like (rec.Queued n o d r path) h = (subst (λ (q : List ℕ). IsFor files q r path) (sym like.wrote) h.1.0, h.1.1)
-  like-may k like (rec.Sent i from to bytes) h = subst (λ (q : List ℕ). SaysFor files q from to bytes) (sym like.wrote) h.1
+  like-may k like (rec.Queued n o d r path) h = (subst (λ (q : List ℕ). IsFor files q r path) (sym like) h.1.0, h.1.1)
+  like-may k like (rec.Sent i from to bytes) h = subst (λ (q : List ℕ). SaysFor files q from to bytes) (sym like) h.1
   like-may k like _ h = tt
 
-  like-mark : (k : WayMarks) → IsLike k → (r : Rec) → IsUnmarked r → IsLike (mark k r)
+  like-mark : (k : WayMarks) → k.wrote ≡ m.wrote → (r : Rec) → IsUnmarked r → (mark k r).wrote ≡ m.wrote
   like-mark k like (rec.Wrote d bytes) h = absurd h
   like-mark k like (rec.AssignedFirst d r path n add remove) h = absurd h
-  like-mark k like (rec.AssignedLater d r path n add size queue) h = absurd h
-  like-mark k like (rec.Served place d r code size way) h = record { assigned = like.assigned; wrote = like.wrote }
   like-mark k like _ h = like
 
-  like-backs : (k : WayMarks) → IsLike k → (rs : List Rec) → Each (IsSteady files m) rs → Backs files k rs
+  like-backs : (k : WayMarks) → k.wrote ≡ m.wrote → (rs : List Rec) → Each (IsSteady files m) rs → Backs files k rs
   like-backs k like [] h = tt
   like-backs k like (r ∷ rs) h = (like-may k like r h.0, like-backs (mark k r) (like-mark k like r h.0.0) rs h.1)
 
   pub steady-backs : (rs : List Rec) → Each (IsSteady files m) rs → Backs files m rs
-  steady-backs rs h = like-backs m (record { assigned = refl; wrote = refl }) rs h
+  steady-backs rs h = like-backs m refl rs h
+
+-- ---- the requests of a batch, by number
+
+module _ (wrote : List ℕ) where
+  -- the verdicts of a batch are those of the requests from this number on
+  abbrev pub AreAt : ℕ → List Entry → Type 0
+  AreAt r [] = Unit {0}
+  AreAt r (e ∷ es) = ((i : ℕ) × (r ≡ i + 1) × (slice_get (verdicts wrote) i ≡ Some e.verdict)) × AreAt (r + 1) es
+
+  -- the verdicts of a batch stand behind those that were answered
+  pub batch-at : (before : List Verdict) (es : List Entry) (r : ℕ) → r ≡ length before + 1 → IsPrefix (before ++ map (λ e. e.verdict) es) (verdicts wrote) → AreAt r es
+  batch-at before [] r is fronts = tt
+  batch-at before (e ∷ es) r is fronts = (
+    (length before, is, next-get before (map (λ e. e.verdict) es) (verdicts wrote) e.verdict fronts),
+    batch-at (before ++ e.verdict ∷ []) es (r + 1) (omega (arith, is, length_push before e.verdict)) (fronts.0, fronts.1 ∙ ap (λ (l : List Verdict). l ++ fronts.0) (sym (append_assoc before (e.verdict ∷ []) (map (λ e. e.verdict) es)))),
+  )
+
+  module _ (files : FilesAt) where
+    named-for : (r : ℕ) (e : Entry) → ((i : ℕ) × (r ≡ i + 1) × (slice_get (verdicts wrote) i ≡ Some e.verdict)) → (path : List ℕ) → named_path files e ≡ Some path → IsFor files wrote r path
+    named-for r e at path is = go e.progress is where
+      go : (p : Progress) → path_in files e p ≡ Some path → IsFor files wrote r path
+      go progress.Named good = record { before = at.0; number = at.1; verdict = e.verdict; is = at.2; good = good }
+      go progress.Reading none = let no : None ≡ Some path = none in absurd (let f : ⊥ = cc in f)
+      go (progress.Awaited node) none = let no : None ≡ Some path = none in absurd (let f : ⊥ = cc in f)
+      go (progress.Ready way) none = let no : None ≡ Some path = none in absurd (let f : ⊥ = cc in f)
+
+    pub all-named : (r : ℕ) (es : List Entry) → AreAt r es → EachNamed files (IsFor files wrote) r es
+    all-named r [] h = tt
+    all-named r (e ∷ es) h = (named-for r e h.0, all-named (r + 1) es h.1)
 
 -- ---- what is in hand
 
--- It acts at the home of a connection whose client wrote so much.
-pub record IsHome (env : NodeEnv) (m : WayMarks) : Type 0 where
-  pub place : env.serve.place ≡ Node env.n
-  pub starts : StartsAt env.n m.assigned
-  pub most : length m.wrote ≤ 2 ^ 30
-
-module _ (env : NodeEnv) (m : WayMarks) (home : IsHome env m) where
+module _ (env : NodeEnv) (m : WayMarks) where
   abbrev files : FilesAt
   files = env.serve.files
 
@@ -120,19 +131,6 @@ module _ (env : NodeEnv) (m : WayMarks) (home : IsHome env m) where
 
   noted-more : (ns : List Rec) (r : Rec) → Each (IsSteady files m) ns → IsSteady files m r → Each (IsSteady files m) (ns ++ r ∷ [])
   noted-more ns r h by = Each-append (IsSteady files m) ns (r ∷ []) h (by, tt)
-
-  -- ---- requests are entered, and start
-
-  here-clean : (r : ℕ) (path : List ℕ) (v : Verdict) (k : Work) → For r path → Clean k → Clean (started_here env r path v k)
-  here-clean r path v k for h = cond_both (env.cached path) _ _ Clean
-      (λ t. record { notes = noted-more k.service.notes (rec.Hit env.n path) h.notes (tt, tt); wants = h.wants })
-      (λ t. record { notes = noted-more k.service.notes (rec.Queued env.n env.n env.serve.c r path) h.notes (tt, (for, number-small files m.wrote r path home.most for)); wants = h.wants })
-
-  started-clean : (node r : ℕ) (path : List ℕ) (v : Verdict) (k : Work) → For r path → Clean k → Clean (started env node r path v k)
-  started-clean node r path v k for h = cond_both (node == env.n) (started_here env r path v k) (started_there node r path v k) Clean (λ t. here-clean r path v k for h)
-      (λ t. record { notes = h.notes; wants = Each-append WantFor k.wants (record { r = r; node = node; path = path } ∷ []) h.wants ((for, other t), tt) }) where
-        other : (node == env.n) ≡ false → env.n ≢ node
-        other t same = both_ways (node == env.n) t (eq-eqb node env.n (sym same))
 
   -- none has a node yet
   quiet-clean : (r : ℕ) (vs : List Verdict) (k : Work) → Clean k → Clean (enters env false r vs k)
@@ -156,23 +154,7 @@ module _ (env : NodeEnv) (m : WayMarks) (home : IsHome env m) where
       let all : Work = enters env false (k.service.count + 1) (v ∷ vs) start in
       asks-clean (length (v ∷ vs)) (named_paths files all.batch) all (quiet-clean (k.service.count + 1) (v ∷ vs) start (record { notes = h.notes; wants = h.wants }))
 
-  -- the first batch, whose first request was assigned with the connection
-  pub first-clean : (used : ℕ) (k : Work) (v : Verdict) (vs : List Verdict) (path : List ℕ) → good_path files v ≡ Some path → For (k.service.count + 1) path → Clean k → Clean (state_of (reads_these env true used k (v ∷ vs)))
-  unfolding enters
-  first-clean used k v vs path good for h =
-      let start : Work = record k { service = serving_consumed used k.service } in
-      let n : ℕ = k.service.count + 1 in
-      let all : Work = enters env false (n + 1) vs (started_here env n path v start) in
-      let clean : Clean all = quiet-clean (n + 1) vs (started_here env n path v start) (here-clean n path v start for (record { notes = h.notes; wants = h.wants })) in
-      subst (λ (o : Option (List ℕ)). Clean (in_hand (enters env (enters_first env n v start o).0 (n + 1) vs (enters_first env n v start o).1))) (sym good)
-      (asks-clean (length (v ∷ vs)) (named_paths files all.batch) all clean) where
-        in_hand : Work → Work
-        in_hand u = asks_for env (length (v ∷ vs)) (named_paths files u.batch) u
-
   -- ---- turn by turn
-
-  served-steady : (r code size : ℕ) (way : Via) → IsSteady files m (rec.Served env.serve.place env.serve.c r code size way)
-  served-steady r code size way = subst (λ (p : Place). IsSteady files m (rec.Served p env.serve.c r code size way)) (sym home.place) (tt, home.starts)
 
   serves-clean : (e : Entry) (rest : List Entry) (k : Work) (p : Progress) → Clean k → Clean (serves_by env e rest k p)
   serves-clean e rest k (progress.Ready way) h =
@@ -180,7 +162,7 @@ module _ (env : NodeEnv) (m : WayMarks) (home : IsHome env m) where
       let total = k.service.block.send.total + length bytes in
       cond_both (nat_lt env.serve.stream total) (passed_over env.serve total k.service) (queued env.serve way e.verdict bytes k.service) (λ (s : Service). Clean (serves_with s e rest k))
       (λ t. record { notes = noted-more k.service.notes (rec.Reset env.serve.place env.serve.c total) h.notes (tt, tt); wants = h.wants })
-      (λ t. record { notes = noted-more k.service.notes (rec.Served env.serve.place env.serve.c (k.service.count + 1) (answer_code files e.verdict) (length bytes) way) h.notes (served-steady (k.service.count + 1) (answer_code files e.verdict) (length bytes) way); wants = h.wants })
+      (λ t. record { notes = noted-more k.service.notes (rec.Served env.serve.place env.serve.c (k.service.count + 1) (answer_code files e.verdict) (length bytes) way) h.notes (tt, tt); wants = h.wants })
   serves-clean e rest k _ h = h
 
   in-order : (k : Work) (es : List Entry) → Clean k → Clean (serves_first env k es)
@@ -198,56 +180,6 @@ module _ (env : NodeEnv) (m : WayMarks) (home : IsHome env m) where
     done = λ y z e p. subst StepClean e (turned-clean y (next_of y) p);
   }) k h
 
-  -- ---- a Tag comes
-
-  -- the verdicts of a batch are those of the requests from this number on
-  abbrev pub AreAt : ℕ → List Entry → Type 0
-  AreAt r [] = Unit {0}
-  AreAt r (e ∷ es) = ((i : ℕ) × (r ≡ i + 1) × (slice_get (verdicts m.wrote) i ≡ Some e.verdict)) × AreAt (r + 1) es
-
-  named-clean : (node r : ℕ) (e : Entry) (k : Work) (o : Option (List ℕ)) → ((path : List ℕ) → o ≡ Some path → For r path) → Clean k → Clean (starts_named env node r e k o).1
-  named-clean node r e k None for h = record { notes = h.notes; wants = h.wants }
-  named-clean node r e k (Some path) for h = started-clean node r path e.verdict k (for path refl) h
-
-  named-for : (r : ℕ) (e : Entry) → ((i : ℕ) × (r ≡ i + 1) × (slice_get (verdicts m.wrote) i ≡ Some e.verdict)) → (path : List ℕ) → named_path files e ≡ Some path → For r path
-  named-for r e at path is = go e.progress is where
-    go : (p : Progress) → path_in files e p ≡ Some path → For r path
-    go progress.Named good = record { before = at.0; number = at.1; verdict = e.verdict; is = at.2; good = good }
-    go progress.Reading none = let no : None ≡ Some path = none in absurd (let f : ⊥ = cc in f)
-    go (progress.Awaited node) none = let no : None ≡ Some path = none in absurd (let f : ⊥ = cc in f)
-    go (progress.Ready way) none = let no : None ≡ Some path = none in absurd (let f : ⊥ = cc in f)
-
-  one-clean : (o : Option ℕ) (r : ℕ) (e : Entry) (k : Work) → ((i : ℕ) × (r ≡ i + 1) × (slice_get (verdicts m.wrote) i ≡ Some e.verdict)) → Clean k → Clean (starts_one env o r e k).1
-  one-clean None r e k at h = record { notes = h.notes; wants = h.wants }
-  one-clean (Some node) r e k at h = named-clean node r e k (named_path files e) (named-for r e at) h
-
-  at-clean : (nodes : List ℕ) (at r : ℕ) (es : List Entry) (k : Work) → AreAt r es → Clean k → Clean (starts_at env nodes at r es k)
-  unfolding starts_at
-  at-clean nodes at r [] k are h = h
-  at-clean nodes at r (e ∷ es) k are h = go (starts_one env (slice_get nodes at) r e k).0 (λ i. at-clean nodes i (r + 1) es x are.1 (one-clean (slice_get nodes at) r e k are.0 h)) where
-    x : Work
-    x = (starts_one env (slice_get nodes at) r e k).1
-
-    go : (b : Bool) → ((i : ℕ) → Clean (starts_at env nodes i (r + 1) es x))
-        → Clean (elim b as (λ b. Work) [ true ↦ starts_at env nodes (at + 1) (r + 1) es x | false ↦ starts_at env nodes at (r + 1) es x ])
-    go true later = later (at + 1)
-    go false later = later at
-
-  pub tagged-clean : (nodes : List ℕ) (k : Work) → AreAt (k.service.count + 1) k.batch → Clean k → Clean (tagged env nodes k)
-  tagged-clean nodes k are h = at-clean nodes 0 (k.service.count + 1) k.batch (record k { batch = [] }) are (record { notes = h.notes; wants = h.wants })
-
-  pub all-named : (r : ℕ) (es : List Entry) → AreAt r es → EachNamed files (IsFor files m.wrote) r es
-  all-named r [] h = tt
-  all-named r (e ∷ es) h = (named-for r e h.0, all-named (r + 1) es h.1)
-
-  -- the verdicts of a batch stand behind those that were answered
-  pub batch-at : (before : List Verdict) (es : List Entry) (r : ℕ) → r ≡ length before + 1 → IsPrefix (before ++ map (λ e. e.verdict) es) (verdicts m.wrote) → AreAt r es
-  batch-at before [] r is fronts = tt
-  batch-at before (e ∷ es) r is fronts = (
-    (length before, is, next-get before (map (λ e. e.verdict) es) (verdicts m.wrote) e.verdict fronts),
-    batch-at (before ++ e.verdict ∷ []) es (r + 1) (omega (arith, is, length_push before e.verdict)) (fronts.0, fronts.1 ∙ ap (λ (l : List Verdict). l ++ fronts.0) (sym (append_assoc before (e.verdict ∷ []) (map (λ e. e.verdict) es)))),
-  )
-
   -- ---- the end of a turn
 
   abbrev pub SaidFor : Place × List ℕ → Type 0
@@ -264,14 +196,6 @@ module _ (env : NodeEnv) (m : WayMarks) (home : IsHome env m) where
   DeedBacks (Says ms) = Each SaidFor ms
   DeedBacks (Does given) = TurnBacks given.1
 
-  want-says : (w : Want) → WantFor w → SaidFor (Node w.node, (fetch_of env w).bytes)
-  want-says w for = λ msg d. subst (BodyFor files m.wrote env.n w.node) (sym (fetch-reads env.serve.c env.epoch w.r w.path (number-small files m.wrote w.r w.path home.most for.0) (path-short files m.wrote w.r w.path for.0) msg d))
-      (for.0, number-small files m.wrote w.r w.path home.most for.0, for.1)
-
-  wants-say : (ws : List Want) → Each WantFor ws → Each SaidFor (wants_sent env ws)
-  wants-say [] h = tt
-  wants-say (w ∷ ws) h = (want-says w h.0, wants-say ws h.1)
-
   asked-says : (o : Option Asked) → Each SaidFor (asked_sent env o)
   asked-says None = tt
   asked-says (Some a) = (tt, tt)
@@ -280,14 +204,76 @@ module _ (env : NodeEnv) (m : WayMarks) (home : IsHome env m) where
   ended-says over (ending.Here b count) = tt
   ended-says over (ending.Over last) = (tt, tt)
 
-  pub ends-back : (p : NodePart) (before : List (Place × List ℕ)) (k : Work) (given : Ending × Turn) → Each SaidFor before → given.1.notes ≡ k.service.notes → AllTo (Client env.serve.c) given.1.segments → Clean k → DeedBacks (Does (kept_after env p k given.0, turn_by env before k given))
-  ends-back p before k given said notes to h = record {
-    notes = subst (Each (IsSteady files m)) (sym notes) h.notes;
-    segments = to;
-    messages = Each-append SaidFor (all_sent env before k) (ended_sent env k.service.over given.0)
-        (Each-append SaidFor (before ++ asked_sent env k.asked) (wants_sent env k.wants) (Each-append SaidFor before (asked_sent env k.asked) said (asked-says k.asked)) (wants-say k.wants h.wants))
-        (ended-says k.service.over given.0);
-  }
+  -- ---- where the client wrote so much
 
-  pub works-back : (p : NodePart) (before : List (Place × List ℕ)) (k : Work) → Each SaidFor before → Clean k → DeedBacks (with_work env p before k)
-  works-back p before k said h = let is = settled-is env.serve k.service in ends-back p before k (serving_settled env.serve k.service) said is.notes is.to h
+  module _ (most : length m.wrote ≤ 2 ^ 30) where
+    here-clean : (r : ℕ) (path : List ℕ) (v : Verdict) (k : Work) → For r path → Clean k → Clean (started_here env r path v k)
+    here-clean r path v k for h = cond_both (env.cached path) _ _ Clean
+        (λ t. record { notes = noted-more k.service.notes (rec.Hit env.n path) h.notes (tt, tt); wants = h.wants })
+        (λ t. record { notes = noted-more k.service.notes (rec.Queued env.n env.n env.serve.c r path) h.notes (tt, (for, number-small files m.wrote r path most for)); wants = h.wants })
+
+    started-clean : (node r : ℕ) (path : List ℕ) (v : Verdict) (k : Work) → For r path → Clean k → Clean (started env node r path v k)
+    started-clean node r path v k for h = cond_both (node == env.n) (started_here env r path v k) (started_there node r path v k) Clean (λ t. here-clean r path v k for h)
+        (λ t. record { notes = h.notes; wants = Each-append WantFor k.wants (record { r = r; node = node; path = path } ∷ []) h.wants ((for, other t), tt) }) where
+          other : (node == env.n) ≡ false → env.n ≢ node
+          other t same = both_ways (node == env.n) t (eq-eqb node env.n (sym same))
+
+    -- the first batch, whose first request was assigned with the connection
+    pub first-clean : (used : ℕ) (k : Work) (v : Verdict) (vs : List Verdict) (path : List ℕ) → good_path files v ≡ Some path → For (k.service.count + 1) path → Clean k → Clean (state_of (reads_these env true used k (v ∷ vs)))
+    unfolding enters
+    first-clean used k v vs path good for h =
+        let start : Work = record k { service = serving_consumed used k.service } in
+        let n : ℕ = k.service.count + 1 in
+        let all : Work = enters env false (n + 1) vs (started_here env n path v start) in
+        let clean : Clean all = quiet-clean (n + 1) vs (started_here env n path v start) (here-clean n path v start for (record { notes = h.notes; wants = h.wants })) in
+        subst (λ (o : Option (List ℕ)). Clean (in_hand (enters env (enters_first env n v start o).0 (n + 1) vs (enters_first env n v start o).1))) (sym good)
+        (asks-clean (length (v ∷ vs)) (named_paths files all.batch) all clean) where
+          in_hand : Work → Work
+          in_hand u = asks_for env (length (v ∷ vs)) (named_paths files u.batch) u
+
+    -- ---- a Tag comes
+
+    named-clean : (node r : ℕ) (e : Entry) (k : Work) (o : Option (List ℕ)) → ((path : List ℕ) → o ≡ Some path → For r path) → Clean k → Clean (starts_named env node r e k o).1
+    named-clean node r e k None for h = record { notes = h.notes; wants = h.wants }
+    named-clean node r e k (Some path) for h = started-clean node r path e.verdict k (for path refl) h
+
+    one-clean : (o : Option ℕ) (r : ℕ) (e : Entry) (k : Work) → ((i : ℕ) × (r ≡ i + 1) × (slice_get (verdicts m.wrote) i ≡ Some e.verdict)) → Clean k → Clean (starts_one env o r e k).1
+    one-clean None r e k at h = record { notes = h.notes; wants = h.wants }
+    one-clean (Some node) r e k at h = named-clean node r e k (named_path files e) (named-for m.wrote files r e at) h
+
+    at-clean : (nodes : List ℕ) (at r : ℕ) (es : List Entry) (k : Work) → AreAt m.wrote r es → Clean k → Clean (starts_at env nodes at r es k)
+    unfolding starts_at
+    at-clean nodes at r [] k are h = h
+    at-clean nodes at r (e ∷ es) k are h = go (starts_one env (slice_get nodes at) r e k).0 (λ i. at-clean nodes i (r + 1) es x are.1 (one-clean (slice_get nodes at) r e k are.0 h)) where
+      x : Work
+      x = (starts_one env (slice_get nodes at) r e k).1
+
+      go : (b : Bool) → ((i : ℕ) → Clean (starts_at env nodes i (r + 1) es x))
+          → Clean (elim b as (λ b. Work) [ true ↦ starts_at env nodes (at + 1) (r + 1) es x | false ↦ starts_at env nodes at (r + 1) es x ])
+      go true later = later (at + 1)
+      go false later = later at
+
+    pub tagged-clean : (nodes : List ℕ) (k : Work) → AreAt m.wrote (k.service.count + 1) k.batch → Clean k → Clean (tagged env nodes k)
+    tagged-clean nodes k are h = at-clean nodes 0 (k.service.count + 1) k.batch (record k { batch = [] }) are (record { notes = h.notes; wants = h.wants })
+
+    -- ---- the end of a turn
+
+    want-says : (w : Want) → WantFor w → SaidFor (Node w.node, (fetch_of env w).bytes)
+    want-says w for = λ msg d. subst (BodyFor files m.wrote env.n w.node) (sym (fetch-reads env.serve.c env.epoch w.r w.path (number-small files m.wrote w.r w.path most for.0) (path-short files m.wrote w.r w.path for.0) msg d))
+        (for.0, number-small files m.wrote w.r w.path most for.0, for.1)
+
+    wants-say : (ws : List Want) → Each WantFor ws → Each SaidFor (wants_sent env ws)
+    wants-say [] h = tt
+    wants-say (w ∷ ws) h = (want-says w h.0, wants-say ws h.1)
+
+    pub ends-back : (p : NodePart) (before : List (Place × List ℕ)) (k : Work) (given : Ending × Turn) → Each SaidFor before → given.1.notes ≡ k.service.notes → AllTo (Client env.serve.c) given.1.segments → Clean k → DeedBacks (Does (kept_after env p k given.0, turn_by env before k given))
+    ends-back p before k given said notes to h = record {
+      notes = subst (Each (IsSteady files m)) (sym notes) h.notes;
+      segments = to;
+      messages = Each-append SaidFor (all_sent env before k) (ended_sent env k.service.over given.0)
+          (Each-append SaidFor (before ++ asked_sent env k.asked) (wants_sent env k.wants) (Each-append SaidFor before (asked_sent env k.asked) said (asked-says k.asked)) (wants-say k.wants h.wants))
+          (ended-says k.service.over given.0);
+    }
+
+    pub works-back : (p : NodePart) (before : List (Place × List ℕ)) (k : Work) → Each SaidFor before → Clean k → DeedBacks (with_work env p before k)
+    works-back p before k said h = let is = settled-is env.serve k.service in ends-back p before k (serving_settled env.serve k.service) said is.notes is.to h

@@ -97,6 +97,7 @@ pub mod BackingMarks
 pub mod BackingFinding
 pub mod BackingAnswering
 pub mod BackingMarked
+pub mod BackingLasting
 pub mod BackingAssignments
 pub mod BackingNumbers
 pub mod BackingTagged

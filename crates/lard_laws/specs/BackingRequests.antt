@@ -1,11 +1,11 @@
 -- Which request of a connection something is for, which place answers it, and what backs the way of its response: in words of the
 -- journal.
-use Rattle.std.specs.Prelude.{◌≡◌, ℕ, ◌+◌, false, List, [], ◌∷◌, ◌++◌, take, Option, Some, Ok}
+use Rattle.std.specs.Prelude.{◌≡◌, ℕ, ◌+◌, false, List, ◌++◌, length, Option, Some, None, Ok}
 use Rattle.std.specs.List.{slice_get}
-use Rattle.lard_law_view.specs.Prelude.{Came, Client, FilesAt, Front, Has, Node, Place, Rec, Seen, Verdict, Via, assigned, content_bytes, decoded_message, good_path, is_touched, net_of, seen_on, served, verdicts, wrote}
+use Rattle.lard_law_view.specs.Prelude.{Came, Client, FilesAt, Front, Has, Node, Place, Rec, Seen, Verdict, Via, assigned, content_bytes, decoded_message, good_path, home_told, is_touched, net_of, next_verdict, owner, seen_on, served, verdicts, wrote}
 use Rattle.lard_base.specs.declared.place.Via.TheVariants as via
 use Rattle.lard_laws.specs.BackingTold.{WasAssigned, WasTold}
-use Rattle.lard_laws.specs.Ways.{good_paths}
+use Rattle.lard_laws.specs.Ways.{paths_answered, way_marks}
 use Rattle.lard_journal.specs.declared.rec.Rec.TheVariants as rec
 use Rattle.lard_message.specs.declared.message.Body.TheVariants as body
 
@@ -19,27 +19,28 @@ pub record IsFor (files : FilesAt) (wrote : List ℕ) (r : ℕ) (path : List ℕ
 
 -- ---- numbers
 
--- The first assignment is for the next request, whose number it has, and a job is for the path of its request: as long as the
--- schedule did not touch the connection.
+-- A first assignment is for the next request, whose number it has, behind the answers to all that was assigned; and a job is for the
+-- path of its request: as long as the schedule did not touch the connection.
 abbrev pub MayName : FilesAt → List Rec → Rec → Type 0
-MayName files past (rec.AssignedFirst c r path n add remove) = is_touched past c ≡ false → (assigned past c ≡ []) × (r ≡ served past c + 1) × IsFor files (wrote past c) r path
+MayName files past (rec.AssignedFirst c r path n add remove) = is_touched past c ≡ false
+    → (length (assigned past c) ≡ length (paths_answered files (way_marks past c))) × (r ≡ served past c + 1) × IsFor files (wrote past c) r path
 MayName files past (rec.Queued n m c r path) = is_touched past c ≡ false → IsFor files (wrote past c) r path
 MayName files past _ = Unit {0}
 
 -- ---- places
 
--- Where no request for a file is among these, the front end answers. The first of them and all later ones are answered by the home,
--- the node of the first assignment.
-abbrev pub AnswersFrom : List (List ℕ) → List (List ℕ × ℕ) → Place → Type 0
-AnswersFrom [] chosen place = place ≡ Front
-AnswersFrom (path ∷ paths) chosen place = (first : List ℕ × ℕ) × (slice_get chosen 0 ≡ Some first) × (place ≡ Node first.1)
+-- The home answers a request for a file, and the place that owns the connection any other.
+abbrev pub AnswersFrom : Option Place → Option ℕ → Option (List ℕ) → Place → Type 0
+AnswersFrom owner home None place = owner ≡ Some place
+AnswersFrom owner home (Some path) place = (h : ℕ) × (home ≡ Some h) × (place ≡ Node h)
 
--- the paths of the good requests up to the next one, which is answered
-abbrev pub paths_so_far : FilesAt → List Rec → ℕ → List (List ℕ)
-paths_so_far files past c = good_paths files (take (served past c + 1) (verdicts (wrote past c)))
+-- it answers the next request, which is there
+abbrev pub AnswersNextFrom : FilesAt → Option Place → Option ℕ → Option Verdict → Place → Type 0
+AnswersNextFrom files owner home None place = ⊥
+AnswersNextFrom files owner home (Some v) place = AnswersFrom owner home (good_path files v) place
 
 abbrev pub MayAnswerFrom : FilesAt → List Rec → Rec → Type 0
-MayAnswerFrom files past (rec.Served place c r code size way) = is_touched past c ≡ false → AnswersFrom (paths_so_far files past c) (assigned past c) place
+MayAnswerFrom files past (rec.Served place c r code size way) = is_touched past c ≡ false → AnswersNextFrom files (owner past c) (home_told past c) (next_verdict past c) place
 MayAnswerFrom files past _ = Unit {0}
 
 -- ---- ways

@@ -5,11 +5,12 @@ use Rattle.lard_laws.specs.BackingRequests.{MayAnswerFrom, MayBeBacked, MayName,
 use Rattle.lard_law_connections.specs.BytesRuns.{AlwaysWithinStreams}
 use Rattle.lard_law_view.specs.Prelude.{EachMay, EachStep, file_at, steps}
 
--- The first assignment has the number and the path of the next request, and each job has the path of its request.
+-- A first assignment has the number and the path of the next request, behind the answers to all that was assigned, and each job has the
+-- path of its request.
 abbrev pub JournalsNameRequests : Type 0
 JournalsNameRequests = AlwaysWithinStreams (λ files m. EachMay (MayName (file_at files)) [] m.journal)
 
--- The front end answers up to the first request for a file, and the home from there on.
+-- The home answers each request for a file, and the place that owns the connection each other one.
 abbrev pub PlacesAnswer : Type 0
 PlacesAnswer = AlwaysWithinStreams (λ files m. EachMay (MayAnswerFrom (file_at files)) [] m.journal)
 

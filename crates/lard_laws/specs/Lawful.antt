@@ -97,7 +97,7 @@ pub record IsLawful (config : Config) (files : FilesAt) (J : List Rec) : Type 0 
   -- and the paths of an Ask go on from those that were assigned before it is sent first
   pub names_next : NamesTheNext files J
   pub ways : ComeAsAssigned files J
-  -- which place answers each request; for which request the first assignment is, and each job of a disk
+  -- which place answers each request; for which request a first assignment is, and each job of a disk
   pub answerers : EachMay (MayAnswerFrom files) [] J
   pub named : EachMay (MayName files) [] J
   -- what a node saw before a response whose content it did not have at hand, and what it sends as a content

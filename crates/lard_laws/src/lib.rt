@@ -164,17 +164,17 @@ pub fn contents_were_there()
 {}
 
 /// In every run of the cluster's machine, whatever is lost, repeated or comes out of order, and of each connection that the schedule
-/// did not touch: the first assignment stands before all others, has the number of the response that is next, and is for the path of
-/// the request that this answers. And each job of a disk is for the path of the request that it names, counted among all that the
-/// client wrote, whether the request is the node's own or came in the Fetch of another one.
+/// did not touch: a first assignment stands behind the answers to all that was assigned before, has the number of the response that is
+/// next, and is for the path of the request that this answers. And each job of a disk is for the path of the request that it names,
+/// counted among all that the client wrote, whether the request is the node's own or came in the Fetch of another one.
 pub fn requests_are_named()
     ensures names { JournalsNameRequests }
 {}
 
 /// In every run of the cluster's machine, whatever is lost, repeated or comes out of order, and of each connection that the schedule
-/// did not touch: the front end answers all requests before the first one for a file. That one and all later ones are answered by
-/// the connection's home, the node of its first assignment, those that are for no file too.
-pub fn the_home_answers_from_the_first_file_on()
+/// did not touch: a request for a file is answered by the connection's home, the node of its last first assignment, and each other one
+/// by the place that owns the connection.
+pub fn the_home_answers_for_files()
     ensures answers { PlacesAnswer }
 {}
 

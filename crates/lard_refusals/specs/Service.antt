@@ -164,7 +164,7 @@ named config files J = EachMay (MayName files) [] J
 abbrev pub second_request_assigned_first : List Rec
 second_request_assigned_first = rec.Wrote 1 (request (codes "/a") ++ request (codes "/b")) ∷ rec.AssignedFirst 1 2 (codes "/b") 1 (Some 1) None ∷ []
 
--- A connection has two first assignments.
+-- A connection is assigned first a second time, and its first request is not answered.
 abbrev pub assigned_first_again : List Rec
 assigned_first_again =
     rec.Wrote 1 (request (codes "/a")) ∷ rec.AssignedFirst 1 1 (codes "/a") 1 (Some 1) None ∷ rec.AssignedFirst 1 1 (codes "/a") 1 None None ∷ []

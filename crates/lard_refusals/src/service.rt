@@ -53,7 +53,7 @@ pub fn sends_rst_refuses()
     ensures touched_client_passes_the_limit { Allows the.sends_rst the.touched_client_passes_the_limit }
 {}
 
-/// The front end answers before the first request for a file, and its node from there.
+/// The home answers a request for a file, and the owner any other.
 pub fn answerers_refuses()
     ensures law { IsLawOfAll the.answerers }
     ensures node_answers_no_file { Refuses the.answerers the.node_answers_no_file }
@@ -61,7 +61,7 @@ pub fn answerers_refuses()
     ensures file_answered_at_its_node { Allows the.answerers the.file_answered_at_its_node }
 {}
 
-/// The first assignment and each job are for a request that was written.
+/// A first assignment and each job are for a request that was written.
 pub fn named_refuses()
     ensures law { IsLawOfAll the.named }
     ensures second_request_assigned_first { Refuses the.named the.second_request_assigned_first }
