@@ -114,6 +114,7 @@ pub mod BackingRuns
 pub mod SizesDone
 pub mod SizesEntering
 pub mod SizesReading
+mod SizesTaken
 pub mod SizesTelling
 pub mod SizesTurns
 pub mod SizesStays

@@ -13,7 +13,7 @@ use Rattle.lard_law_connections.proofs.PlacesTurns.{IsPlaced}
 use Rattle.lard_laws.specs.Sizes.{SizeMarks, batch_begins, complete, requests_read_by, read_on}
 use Rattle.lard_laws.proofs.SizesMoving.{IsTelling, Reaches, marks_now}
 use Rattle.lard_laws.proofs.SizesReading.{IsReadOn, Reach}
-use Rattle.lard_laws.proofs.SizesTurns.{Reads, RowReach, RowReads, RowTold, StageReach, StageReads, StageTold, StayReach, StayReads, complete-is}
+use Rattle.lard_laws.proofs.SizesTurns.{Reads, RowLeft, RowReach, RowReads, StageLeft, StageReach, StageReads, StayReach, StayReads, complete-is}
 use Rattle.lard_law_connections.specs.Stops.{BackStageStops, FirstIsAwaited, ReadingStops, RowStops, StayStops}
 use Rattle.lard_handoff_back.specs.declared.row.BackConn.TheVariants as back
 use Rattle.lard_law_view.specs.Agreement as one
@@ -70,7 +70,7 @@ empty-batch : (es : List Entry) → length es ≤ 0 → es ≡ []
 empty-batch [] le = refl
 empty-batch (e ∷ es) le = absurd (omega (arith, le))
 
-module _ (files : FilesAt) (x : Conn) (truth : IsTruthful files x) (placed : IsPlaced x) (stops : ReadingStops files x) (telling : IsTelling x) (u : ℕ) (reach : Reaches u x) where
+module _ (files : FilesAt) (x : Conn) (truth : IsTruthful files x) (placed : IsPlaced x) (stops : ReadingStops files x) (telling : IsTelling files x) (u : ℕ) (reach : Reaches u x) where
   abbrev m : SizeMarks
   m = marks_now x
 
@@ -97,7 +97,7 @@ module _ (files : FilesAt) (x : Conn) (truth : IsTruthful files x) (placed : IsP
     stop = subst (λ (st : BackConn). BackStageStops st (Some t)) at (subst (RowStops (Some row)) stays (subst (λ (q : Option BackRow). RowStops q (x.part.nodes n).stay) found (stops.1 n)))
 
     told : IsTold (stand_at x).told b
-    told = subst (StageTold (stand_at x).told) at (subst (RowTold (stand_at x).told) found (telling.told n))
+    told = (subst (StageLeft files m (x.part.nodes n).stay) at (subst (RowLeft files m (x.part.nodes n).stay) found (telling.left n))).0
 
     all : complete m ≡ verdicts (take b.recv.got l.w.bytes)
     all = complete-is l.w b.recv stream agrees.1.hears m (record { isn = l.w.first; iss = l.out.first }) o.tale.numbers refl o.tale.wrote (record { said = told.said; is = told.is; ack = told.ack })

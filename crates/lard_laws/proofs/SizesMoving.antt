@@ -1,20 +1,24 @@
 -- In each move the client of a connection is told what it has to be, and what its Asks say is so.
-use Rattle.std.proofs.Common.{◌≡◌, ◌≢◌, ◌⊎◌, ◌+◌, ◌==◌, ℕ, Bool, true, false, eq-eqb, eqb-true, List, [], ◌∷◌, ◌++◌, map, Option, Some, None, Ok, inl, inr, ⊎_elim, refl, sym, ap, ◌∙◌, subst, append-nil}
+use Rattle.std.proofs.Common.{◌≡◌, ◌≢◌, ◌⊎◌, ◌+◌, ◌==◌, ℕ, nat_eq, Bool, true, false, cond, eq-eqb, eqb-true, List, [], ◌∷◌, ◌++◌, length, map, take, Option, Some, None, Ok, inl, inr, ⊎_elim, refl, sym, ap, ◌∙◌, subst, append-nil}
+use Rattle.std.proofs.lemmas.List.Sums.{fold-append}
 use Rattle.std.specs.List.{fold, list_any}
-use Rattle.lard_law_view.specs.Prelude.{BackConn, BackRow, Came, Client, Conn, FilesAt, Front, Message, Move, Node, NodePart, Part, Place, Rec, Row, Said, Seen, Tale, ToClient, Was, bytes_served_in, decoded, decoded_message, grown, is_reset_record, rows_of, seen_in, served_in, tale_at, tale_of, timer_rows, told_on}
+use Rattle.lard_answers.proofs.Growing.{IsPrefix-trans}
+use Rattle.lard_law_view.specs.Prelude.{BackConn, BackRow, Came, Client, Conn, FilesAt, Front, IsPrefix, Message, Move, Node, NodePart, Part, Place, Rec, Row, Said, Seen, Stay, Tale, ToClient, Was, bytes_served_in, decoded, decoded_message, grown, is_reset_record, rows_of, seen_in, seen_step, served_in, tale_at, tale_of, tale_step, timer_rows, told_on, untold, verdicts}
 use Rattle.lard_law_connections.proofs.BytesLaw.{IsHead}
 use Rattle.lard_law_connections.specs.BytesTurning.{IsNoteOf}
 use Rattle.lard_law_connections.proofs.BytesTold.{Bytes, bytes_of, move-bytes, place-notes}
 use Rattle.lard_law_connections.specs.Line.{said_of}
-use Rattle.lard_law_connections.proofs.LineSpeaking.{heard_by}
+use Rattle.lard_law_connections.proofs.LineSpeaking.{IsTold, heard_by}
 use Rattle.lard_law_connections.proofs.LineStands.{Stand, came_stand, row_step, sent_stand, stand-grown, stand_at, stand_before, stand_step, unknown}
 use Rattle.lard_law_connections.proofs.OffersSent.{AreSeen, SentSeen, grown-seen}
 use Rattle.lard_law_connections.specs.Places.{Owning, owning}
 use Rattle.lard_law_connections.proofs.PlacesNodeRules.{has-at}
 use Rattle.lard_law_connections.proofs.PlacesRows.{MayOwnBy, OwnsBy, SendsOwn, after, after_all}
 use Rattle.lard_law_connections.proofs.PlacesTurns.{IsPlaced, Owes}
-use Rattle.lard_laws.specs.Sizes.{BodyIsOfBatch, SizeMarks}
-use Rattle.lard_laws.proofs.SizesTurns.{PartReach, Reads, RowTold, SaysFit, StageTold, now_told, reads-reach}
+use Rattle.lard_laws.specs.Sizes.{BodyIsOfBatch, SizeMarks, TakeOver, take_over_step}
+use Rattle.lard_laws.proofs.SizesReading.{HasGoodBehind, good-grows}
+use Rattle.lard_laws.proofs.SizesTaken.{owned-taken, seen_take_over, take-grown, take-served}
+use Rattle.lard_laws.proofs.SizesTurns.{PartLeft, PartReach, Reads, RowLeft, SaysFit, StageLeft, StayLeft, now_told, reads-reach}
 use Rattle.lard_law_view.specs.View.{sending}
 use Rattle.lard_law_view.proofs.Fine.{IsItsOwn}
 use Rattle.lard_law_view.proofs.Rows.{tale_before}
@@ -31,15 +35,22 @@ use Rattle.lard_law_view.proofs.RecordKinds.{IsUnsent}
 
 -- by what a connection saw
 abbrev pub seen_marks : ℕ → List Seen → SizeMarks
-seen_marks c ss = record { numbers = (tale_of c ss).numbers; wrote = (tale_of c ss).wrote; served = (tale_of c ss).served; told = (fold (stand_step c) unknown ss).told }
+seen_marks c ss = record {
+  numbers = (tale_of c ss).numbers;
+  wrote = (tale_of c ss).wrote;
+  served = (tale_of c ss).served;
+  taken = (seen_take_over c ss).taken;
+  told = (fold (stand_step c) unknown ss).told;
+}
 
 abbrev pub marks_now : Conn → SizeMarks
 marks_now x = seen_marks x.c x.seen
 
--- Each packet was seen to go out, and where a node has the endpoint, the client was told all that came.
-pub record IsTelling (x : Conn) : Type 0 where
+-- Each packet was seen to go out, and where a node has the endpoint, the client was told all that came, and one of the requests that were
+-- read since is for a file.
+pub record IsTelling (files : FilesAt) (x : Conn) : Type 0 where
   pub seen : AreSeen x
-  pub told : (n : ℕ) → RowTold (stand_at x).told (x.part.nodes n).row
+  pub left : (n : ℕ) → PartLeft files (marks_now x) (x.part.nodes n)
 
 -- ---- what may be seen of a step
 
@@ -65,7 +76,7 @@ Reaches u x = (n : ℕ) → PartReach u (tale_at x).wrote (x.part.nodes n)
 
 -- it tells what it has to, what its Asks say is so, and so many requests are read
 abbrev pub IsSaid : FilesAt → ℕ → Conn → Move → Type 0
-IsSaid files u x v = IsTelling (grown x v) × AllFit files u x v × Reaches u (grown x v)
+IsSaid files u x v = IsTelling files (grown x v) × AllFit files u x v × Reaches u (grown x v)
 
 abbrev pub IsNoNode : Place → Type 0
 IsNoNode Front = Unit {0}
@@ -205,33 +216,76 @@ notes-owner : (place : Place) (c d : ℕ) (w : Owning) (q : Place) (ns rest : Li
 notes-owner place c d w q [] rest h mine owns = (mine, owns)
 notes-owner place c d w q (r ∷ rs) rest h mine owns = notes-owner place c d (after w r) q rs rest h.1 (note-owner place c d w q r h.0 mine owns.0) owns.1
 
+-- so nobody takes it
+notes-taken : (place : Place) (c d : ℕ) (w : Owning) (q : Place) (t : TakeOver) (ns rest : List Rec) → Each (NotedAt place d) ns → w.owner ≡ Some q → OwnsBy c w (ns ++ rest) → (fold (take_over_step c) t ns).taken ≡ t.taken
+notes-taken place c d w q t [] rest h mine owns = refl
+notes-taken place c d w q t (r ∷ rs) rest h mine owns =
+    notes-taken place c d (after w r) q (take_over_step c t r) rs rest h.1 (note-owner place c d w q r h.0 mine owns.0) owns.1 ∙ owned-taken c w q t r mine owns.0
+
 owns-first : (c : ℕ) (w : Owning) (xs ys : List Rec) → OwnsBy c w (xs ++ ys) → OwnsBy c w xs
 owns-first c w [] ys h = tt
 owns-first c w (y ∷ xs) ys h = (h.0, owns-first c (after w y) xs ys h.1)
 
-module _ (x : Conn) (v : Move) (own : IsItsOwn x v) (owes : Owes x v) (placed : IsPlaced x) (heads : Each IsHead v.heads) where
-  silent-told : (q : Place) → (owning (tale_at x)).owner ≡ Some q → v.place ≢ q → (stand_at (grown x v)).told ≡ (stand_at x).told
-  silent-told q mine other =
-      let w : Owning = owning (tale_at x) in
+-- ---- what its client wrote only grows
+
+row-wrote : (c : ℕ) (t : Tale) (r : Rec) → IsPrefix t.wrote (tale_step c t r).wrote
+row-wrote c t (rec.Wrote d bytes) = go (nat_eq d c) where
+  go : (b : Bool) → IsPrefix t.wrote (cond b (t.wrote ++ bytes) t.wrote)
+  go true = (bytes, refl)
+  go false = ([], sym (append-nil t.wrote))
+row-wrote c t _ = ([], sym (append-nil t.wrote))
+
+seen-wrote : (c : ℕ) (t : Tale) (ss : List Seen) → IsPrefix t.wrote (fold (seen_step (tale_step c)) t ss).wrote
+seen-wrote c t [] = ([], sym (append-nil t.wrote))
+seen-wrote c t (Came l ∷ ss) = seen-wrote c t ss
+seen-wrote c t (Row r ∷ ss) = IsPrefix-trans t.wrote (tale_step c t r).wrote (fold (seen_step (tale_step c)) (tale_step c t r) ss).wrote (row-wrote c t r) (seen-wrote c (tale_step c t r) ss)
+
+wrote-grown : (x : Conn) (v : Move) → IsPrefix (tale_at x).wrote (tale_at (grown x v)).wrote
+wrote-grown x v = subst (λ (t : Tale). IsPrefix (tale_at x).wrote t.wrote) (sym (fold-append (seen_step (tale_step x.c)) untold x.seen (seen_in x v))) (seen-wrote x.c (tale_at x) (seen_in x v))
+
+-- what is told since no node took it
+stay-later : (files : FilesAt) (m n : SizeMarks) → n.taken ≡ m.taken → IsPrefix m.wrote n.wrote → (o : Option Stay) → StayLeft files m o → StayLeft files n o
+stay-later files m n same more None h = tt
+stay-later files m n same more (Some s) h =
+    let read : ℕ = s.served + length s.batch in
+    subst (λ (y : ℕ × List ℕ). HasGoodBehind files y.0 (take read (verdicts y.1))) (λ i. (sym same i, sym more.1 i)) (good-grows files m.taken read m.wrote more.0 h)
+
+module _ (files : FilesAt) (x : Conn) (v : Move) (own : IsItsOwn x v) (owes : Owes x v) (placed : IsPlaced x) (heads : Each IsHead v.heads) where
+  abbrev w : Owning
+  w = owning (tale_at x)
+
+  -- its notes and segments are those of who may write them
+  rows-owned : OwnsBy x.c w (v.said.notes ++ map (sending v.place) v.said.segments)
+  rows-owned =
       let N : List Rec = v.said.notes in
       let S : List Rec = map (sending v.place) v.said.segments in
       let G : List Rec = v.said.gave in
       let M : List Rec = map (sending v.place) v.said.messages in
       let T : List Rec = timer_rows v.place x.c x.part v.part in
-      let owns : OwnsBy x.c w (N ++ S) = owns-first x.c w (N ++ S) G (owns-first x.c w (N ++ S ++ G) M (owns-first x.c w (N ++ S ++ G ++ M) T owes.rows)) in
-      let behind = notes-owner v.place x.c x.c w q N S own.notes mine owns in
-      told-grown x v own heads ∙ silent-behind x.c (after_all w N) v.place q (stand_at x).told v.said.segments behind.0 other behind.1
+      owns-first x.c w (N ++ S) G (owns-first x.c w (N ++ S ++ G) M (owns-first x.c w (N ++ S ++ G ++ M) T owes.rows))
 
-  -- so what another node has is told as it was
-  row-still : (q : ℕ) (r : Option BackRow) → (x.part.nodes q).row ≡ r → v.place ≢ Node q → RowTold (stand_at x).told r → RowTold (stand_at (grown x v)).told r
-  row-still q None found other h = tt
-  row-still q (Some row) found other h = go row.stage refl h where
-    go : (d : BackConn) → row.stage ≡ d → StageTold (stand_at x).told d → StageTold (stand_at (grown x v)).told d
-    go (back.Here b) at t = subst (λ (o : Option Said). StageTold o (back.Here b)) (sym (silent-told (Node q) (has-at x placed q row b found at x.part.front.row refl).owner other)) t
+  silent-told : (q : Place) → w.owner ≡ Some q → v.place ≢ q → (stand_at (grown x v)).told ≡ (stand_at x).told
+  silent-told q mine other =
+      let behind = notes-owner v.place x.c x.c w q v.said.notes (map (sending v.place) v.said.segments) own.notes mine rows-owned in
+      told-grown x v own heads ∙ silent-behind x.c (after_all w v.said.notes) v.place q (stand_at x).told v.said.segments behind.0 other behind.1
+
+  silent-taken : (q : Place) → w.owner ≡ Some q → (marks_now (grown x v)).taken ≡ (marks_now x).taken
+  silent-taken q mine =
+      ap (λ (t : TakeOver). t.taken) (take-grown x v own heads)
+      ∙ notes-taken v.place x.c x.c w q (seen_take_over x.c x.seen) v.said.notes (map (sending v.place) v.said.segments) own.notes mine rows-owned
+
+  -- so what another node has is as it was
+  row-still : (q : ℕ) (o : Option Stay) (r : Option BackRow) → (x.part.nodes q).row ≡ r → v.place ≢ Node q → RowLeft files (marks_now x) o r → RowLeft files (marks_now (grown x v)) o r
+  row-still q o None found other h = tt
+  row-still q o (Some row) found other h = go row.stage refl h where
+    go : (d : BackConn) → row.stage ≡ d → StageLeft files (marks_now x) o d → StageLeft files (marks_now (grown x v)) o d
+    go (back.Here b) at t =
+        let mine : w.owner ≡ Some (Node q) = (has-at x placed q row b found at x.part.front.row refl).owner in
+        (subst (λ (o : Option Said). IsTold o b) (sym (silent-told (Node q) mine other)) t.0, stay-later files (marks_now x) (marks_now (grown x v)) (silent-taken (Node q) mine) (wrote-grown x v) o t.1)
     go _ at t = tt
 
-  node-still : (q : ℕ) → v.place ≢ Node q → (v.part.nodes q).row ≡ (x.part.nodes q).row → RowTold (stand_at x).told (x.part.nodes q).row → RowTold (stand_at (grown x v)).told (v.part.nodes q).row
-  node-still q other same h = subst (RowTold (stand_at (grown x v)).told) (sym same) (row-still q (x.part.nodes q).row refl other h)
+  node-still : (q : ℕ) → v.place ≢ Node q → v.part.nodes q ≡ x.part.nodes q → PartLeft files (marks_now x) (x.part.nodes q) → PartLeft files (marks_now (grown x v)) (v.part.nodes q)
+  node-still q other same h = subst (PartLeft files (marks_now (grown x v))) (sym same) (row-still q (x.part.nodes q).stay (x.part.nodes q).row refl other h)
 
   -- ---- where another place than a node acts
 
@@ -240,9 +294,9 @@ module _ (x : Conn) (v : Move) (own : IsItsOwn x v) (owes : Owes x v) (placed : 
   no-node (Client d) q h e = let no : Client d ≡ Node q = e in cc
   no-node (Node n) q h e = absurd h
 
-  pub else-said : (files : FilesAt) → IsNoNode v.place → v.part.nodes ≡ x.part.nodes → IsTelling x → (u : ℕ) → Reads u x → IsSaid files u x v
-  else-said files apart same h u reads = (
-    record { seen = grown-seen x v h.seen; told = λ q. node-still q (no-node v.place q apart) (ap (λ (nodes : ℕ → NodePart). (nodes q).row) same) (h.told q) },
+  pub else-said : IsNoNode v.place → v.part.nodes ≡ x.part.nodes → IsTelling files x → (u : ℕ) → Reads u x → IsSaid files u x v
+  else-said apart same h u reads = (
+    record { seen = grown-seen x v h.seen; left = λ q. node-still q (no-node v.place q apart) (ap (λ (nodes : ℕ → NodePart). nodes q) same) (h.left q) },
     all-fit files u x v own (Each-weaker IsHead (SeenFits files x.c u x.seen (seen_in x v)) (head-fits files x.c u x.seen (seen_in x v)) v.heads heads)
         (else-sends files x.c u x.seen (seen_in x v) v.place apart v.said.segments) (else-sends files x.c u x.seen (seen_in x v) v.place apart v.said.messages),
     λ q. subst (λ (nodes : ℕ → NodePart). PartReach u (tale_at (grown x v)).wrote (nodes q)) (sym same) (reads-reach u (tale_at (grown x v)).wrote (x.part.nodes q).stay (x.part.nodes q).row (reads.here q)),
@@ -255,7 +309,7 @@ module _ (files : FilesAt) (u : ℕ) (x : Conn) (n : ℕ) (heads : List Seen) (n
   acts = record { place = Node n; heads = heads; said = record { notes = notes; segments = segments; gave = gave; messages = messages }; part = part }
 
   abbrev now : SizeMarks
-  now = now_told files x.c x n u (marks_now x) ((marks_now x).served + served_in notes) segments
+  now = now_told files x.c x n u (marks_now x) notes segments
 
   module _ (own : IsItsOwn x acts) (owes : Owes x acts) (placed : IsPlaced x) (are : Each IsHead heads) (quiet : bytes_of (tale_before x acts) ≡ bytes_of (tale_at x)) (each : Each (IsNoteOf x.c) notes) (to : AllTo (Client x.c) segments) where
     -- what is told with the step
@@ -267,15 +321,17 @@ module _ (files : FilesAt) (u : ℕ) (x : Conn) (n : ℕ) (heads : List Seen) (n
         let before : Tale = tale_before x acts in
         let adds : Adds before [] [] (served_in notes) (bytes_served_in notes) (list_any is_reset_record notes) (told_on x.c before notes) = place-notes x.c before notes each in
         let moved : bytes_of (tale_at (grown x acts)) ≡ bytes_of (told_on x.c before notes) = move-bytes x acts own.messages own.gave in
+        let taking : seen_take_over x.c x.seen ≡ record { served = (marks_now x).served; taken = (marks_now x).taken } = λ i. record { served = take-served x.c x.seen i; taken = (marks_now x).taken } in
         λ i. record {
           numbers = (ap (λ (b : Bytes). b.numbers) moved ∙ adds.numbers ∙ ap (λ (b : Bytes). b.numbers) quiet) i;
           wrote = (ap (λ (b : Bytes). b.wrote) moved ∙ adds.wrote ∙ append-nil before.wrote ∙ ap (λ (b : Bytes). b.wrote) quiet) i;
           served = (ap (λ (b : Bytes). b.served) moved ∙ adds.served ∙ ap (λ (b : Bytes). b.served + served_in notes) quiet) i;
+          taken = (ap (λ (t : TakeOver). t.taken) (take-grown x acts own are ∙ ap (λ (t : TakeOver). fold (take_over_step x.c) t notes) taking)) i;
           told = told-now i;
         }
 
     -- what is said was seen before, or it is of its batch
-    message-fits : IsTelling x → (s : Place × List ℕ) → SaysFit files x.c x n u (marks_now x) now s → SentFits files x.c u x.seen (seen_in x acts) (Node n) s.0 s.1
+    message-fits : IsTelling files x → (s : Place × List ℕ) → SaysFit files x.c x n u (marks_now x) now s → SentFits files x.c u x.seen (seen_in x acts) (Node n) s.0 s.1
     message-fits h s says = go s.0 says where
       go : (p : Place) → SaysFit files x.c x n u (marks_now x) now (p, s.1) → SentFits files x.c u x.seen (seen_in x acts) (Node n) p s.1
       go (Client d) f = tt
@@ -284,14 +340,14 @@ module _ (files : FilesAt) (u : ℕ) (x : Conn) (n : ℕ) (heads : List Seen) (n
           (λ (was : Was x (Node n) Front s.1). absurd (new (h.seen (record { from = Node n; to = Front; bytes = s.1 }) was)))
           (λ (g : (m : Message) → decoded_message s.1 ≡ Ok m → BodyIsOfBatch files u now m.body). subst (λ (t : SizeMarks). BodyIsOfBatch files u t m.body) (sym marks-grown) (g m d)) f
 
-    messages-fit : IsTelling x → (ss : List (Place × List ℕ)) → Each (SaysFit files x.c x n u (marks_now x) now) ss → Each (RowFits files x.c u x.seen (seen_in x acts)) (map (sending (Node n)) ss)
+    messages-fit : IsTelling files x → (ss : List (Place × List ℕ)) → Each (SaysFit files x.c x n u (marks_now x) now) ss → Each (RowFits files x.c u x.seen (seen_in x acts)) (map (sending (Node n)) ss)
     messages-fit h [] f = tt
     messages-fit h (s ∷ ss) f = (message-fits h s f.0, messages-fit h ss f.1)
 
-    pub node-said : ((q : ℕ) → q ≢ n → part.nodes q ≡ x.part.nodes q) → RowTold (heard_by x.c (stand_at x).told segments) (part.nodes n).row → PartReach u (marks_now x).wrote (part.nodes n) → Each (SaysFit files x.c x n u (marks_now x) now) messages
-        → IsTelling x → Reads u x → IsSaid files u x acts
+    pub node-said : ((q : ℕ) → q ≢ n → part.nodes q ≡ x.part.nodes q) → PartLeft files now (part.nodes n) → PartReach u (marks_now x).wrote (part.nodes n) → Each (SaysFit files x.c x n u (marks_now x) now) messages
+        → IsTelling files x → Reads u x → IsSaid files u x acts
     node-said others mine mine_reach says h reads = (
-      record { seen = grown-seen x acts h.seen; told = λ q. by_node q (same_number_here q n) },
+      record { seen = grown-seen x acts h.seen; left = λ q. by_node q (same_number_here q n) },
       all-fit files u x acts own (Each-weaker IsHead (SeenFits files x.c u x.seen (seen_in x acts)) (head-fits files x.c u x.seen (seen_in x acts)) heads are)
           (client-sends files x.c u x.seen (seen_in x acts) n x.c segments to) (messages-fit h messages says),
       λ q. reach_by q (same_number_here q n),
@@ -301,10 +357,10 @@ module _ (files : FilesAt) (u : ℕ) (x : Conn) (n : ℕ) (heads : List Seen) (n
           (λ (same : q ≡ n). subst (λ (i : ℕ). PartReach u (tale_at (grown x acts)).wrote (part.nodes i)) (sym same) (subst (λ (l : List ℕ). PartReach u l (part.nodes n)) (sym (ap (λ (m : SizeMarks). m.wrote) marks-grown)) mine_reach))
           (λ (other : q ≢ n). subst (PartReach u (tale_at (grown x acts)).wrote) (sym (others q other)) (reads-reach u (tale_at (grown x acts)).wrote (x.part.nodes q).stay (x.part.nodes q).row (reads.here q))) e
 
-      by_node : (q : ℕ) → (q ≡ n) ⊎ (q ≢ n) → RowTold (stand_at (grown x acts)).told (part.nodes q).row
+      by_node : (q : ℕ) → (q ≡ n) ⊎ (q ≢ n) → PartLeft files (marks_now (grown x acts)) (part.nodes q)
       by_node q e = ⊎_elim
-          (λ (same : q ≡ n). subst (λ (i : ℕ). RowTold (stand_at (grown x acts)).told (part.nodes i).row) (sym same) (subst (λ (o : Option Said). RowTold o (part.nodes n).row) (sym told-now) mine))
-          (λ (other : q ≢ n). node-still x acts own owes placed are q (λ f. let same : n ≡ q = cc in other (sym same)) (ap (λ (p : NodePart). p.row) (others q other)) (h.told q)) e
+          (λ (same : q ≡ n). subst (λ (i : ℕ). PartLeft files (marks_now (grown x acts)) (part.nodes i)) (sym same) (subst (λ (m : SizeMarks). PartLeft files m (part.nodes n)) (sym marks-grown) mine))
+          (λ (other : q ≢ n). node-still files x acts own owes placed are q (λ f. let same : n ≡ q = cc in other (sym same)) (others q other) (h.left q)) e
 
       same_number_here : (a b : ℕ) → (a ≡ b) ⊎ (a ≢ b)
       same_number_here a b = go (a == b) refl where

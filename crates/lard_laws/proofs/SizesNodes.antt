@@ -1,29 +1,30 @@
 -- Each rule of a node tells its client all that came, and asks for what its batch is.
-use Rattle.std.proofs.Common.{◌≡◌, ◌≤◌, ◌+◌, ◌^◌, ℕ, cond, List, [], ◌∷◌, ◌++◌, map, Option, Some, None, inl, refl, sym, ap, ◌∙◌, subst, arith}
+use Rattle.std.proofs.Common.{◌≡◌, ◌≤◌, ◌+◌, ◌^◌, ℕ, cond, List, [], ◌∷◌, ◌++◌, length, map, take, Option, Some, None, inl, refl, sym, ap, ◌∙◌, subst, arith}
 use Rattle.std.proofs.lemmas.List.{map-append}
-use Rattle.lard_law_view.specs.Prelude.{AreSent, BackRow, Completed, Conn, ControlBlock, EndpointParts, FilesAt, Front, IsConnNumber, IsConnSound, IsNodeEnv, Kept, Move, Node, NodeDeed, NodeEnv, NodeGets, NodePart, NodeRules, NodeTurn, Place, Rec, Seen, Setting, Stay, Tale, Talk, after_timer, again_sent, came_for, come_progress, content_said, front_rest, goes_on, gone, named_records, node_does, node_fired, node_rule, nothing_said, offer_answer, offered_by, on_segment, packet_seen, read_progress, reads_first, seen_step, sent_of, served_in, serving, serving_ready_of, spoken, stands, tagged, taken_sent, tale_at, tale_step, timed, with_node, with_work, without, work_of}
+use Rattle.lard_law_view.specs.Prelude.{AreSent, BackRow, Completed, Conn, ControlBlock, EndpointParts, FilesAt, Front, IsConnNumber, IsConnSound, IsNodeEnv, Kept, Move, Node, NodeDeed, NodeEnv, NodeGets, NodePart, NodeRules, NodeTurn, Place, Rec, Seen, Setting, Stay, Tale, Talk, after_timer, again_sent, came_for, come_progress, content_said, goes_on, gone, named_records, node_does, node_fired, node_rule, nothing_said, offer_answer, offered_by, on_segment, packet_seen, read_progress, reads_first, seen_step, sent_of, served_in, serving, serving_ready_of, spoken, stands, tagged, taken_sent, tale_at, tale_step, timed, verdicts, with_node, with_work, without, work_of}
 use Rattle.lard_base.specs.declared.place.TimerKind.TheVariants as timer
 use Rattle.lard_law_connections.specs.BytesAgreement.{IsOpen, IsTruthful}
 use Rattle.lard_law_connections.proofs.BytesLaw.{IsHead}
 use Rattle.lard_law_connections.specs.BytesTurning.{IsNoteOf}
 use Rattle.lard_law_connections.proofs.BytesClientMoves.{open-at}
 use Rattle.lard_law_connections.proofs.BytesFrontMessages.{opened-at}
-use Rattle.lard_law_connections.proofs.BytesNodeMoves.{HasIt}
 use Rattle.lard_law_connections.proofs.BytesNodeRest.{front-opens}
 use Rattle.lard_law_connections.proofs.BytesNodeTurns.{talk-of}
 use Rattle.lard_law_connections.proofs.BytesTold.{bytes_of, named-each, named-served}
-use Rattle.lard_law_connections.proofs.LineSpeaking.{heard_by}
+use Rattle.lard_law_connections.proofs.LineSpeaking.{IsTold}
+use Rattle.lard_law_connections.proofs.PlacesRows.{IsPlain}
 use Rattle.lard_law_connections.proofs.PlacesTurns.{IsPlaced, Owes}
-use Rattle.lard_laws.specs.Sizes.{SizeMarks}
+use Rattle.lard_laws.specs.Sizes.{SizeMarks, TakeOver, take_over_step}
 use Rattle.lard_laws.proofs.SizesMoving.{IsSaid, IsTelling, acts, marks_now, node-said}
 use Rattle.lard_laws.proofs.SizesOffers.{new-fits}
-use Rattle.lard_laws.proofs.SizesStays.{IsAgreeing, comes-fit, fires-fit, hears-fit, reads-fit, stay-good, tags-fit}
-use Rattle.lard_laws.proofs.SizesTurns.{DeedFits, PartReach, Reads, RowReach, RowReads, RowTold, SaysFit, now_told, other-says, reads-reach}
+use Rattle.lard_laws.proofs.SizesReading.{HasGoodBehind}
+use Rattle.lard_laws.proofs.SizesStays.{IsAgreeing, comes-fit, fires-fit, hears-fit, reads-fit, tags-fit}
+use Rattle.lard_laws.proofs.SizesTaken.{named-take, plain-taken}
+use Rattle.lard_laws.proofs.SizesTurns.{DeedFits, PartLeft, PartReach, Reads, RowLeft, RowReach, RowReads, SaysFit, StayLeft, now_told, other-says, past_take_over, reads-reach}
 use Rattle.lard_law_view.proofs.Fine.{IsItsOwn}
 use Rattle.lard_law_view.proofs.Parts.{put-same}
 use Rattle.lard_law_view.proofs.Rows.{tale_before}
-use Rattle.lard_laws.specs.WaysState.{GoesItsWay, StayWays, marks_at}
-use Rattle.lard_laws.proofs.WaysHomes.{AtHome, at-home}
+use Rattle.lard_laws.specs.WaysState.{GoesItsWay}
 use Rattle.lard_history.proofs.Each.{Each, Each-append}
 use Rattle.lard_history.proofs.Seeing.{other_number}
 use Rattle.lard_journal.specs.declared.rec.Rec.TheVariants as rec
@@ -37,7 +38,6 @@ use Rattle.lard_rules.proofs.NodeCases.{IsHereWith, IsInItsEpoch, KeptByNode, no
 use Rattle.std.specs.List.{fold}
 use Rattle.lard_rules.specs.Node.{Does, Drops, Says}
 use Rattle.lard_rules.specs.NodePlace as node_place
-use Rattle.lard_segment.specs.Segment as spelling
 
 -- it tells nothing of bytes
 abbrev IsStill : Seen → Type 0
@@ -54,38 +54,47 @@ module _ (files : FilesAt) (x : Conn) (n u : ℕ) (reads : Reads u x) where
 
   -- what a move owes
   abbrev pub Said : Move → Type 0
-  Said v = IsItsOwn x v → Owes x v → IsPlaced x → IsTelling x → IsSaid files u x v
+  Said v = IsItsOwn x v → Owes x v → IsPlaced x → IsTelling files x → IsSaid files u x v
+
+  -- the same is told behind these
+  still-told : (notes : List Rec) → served_in notes ≡ 0 → Each IsPlain notes → past ≡ now_told files x.c x n u past notes []
+  still-told notes none plain = λ i. record past { served = plus-none past.served (served_in notes) none i; taken = sym (plain-taken x.c (past_take_over files x.c x n u past) notes plain) i } where
+    plus-none : (a b : ℕ) → b ≡ 0 → a ≡ a + b
+    plus-none a b e = omega (arith, e)
 
   -- it says this alone, behind these notes
   pub stands-said : (heads : List Seen) (notes : List Rec) (ms : List (Place × List ℕ)) → Each IsHead heads → bytes_of (tale_before x (stands x (Node n) heads (record nothing_said { notes = notes; messages = ms }))) ≡ bytes_of (tale_at x) → Each (IsNoteOf x.c) notes → served_in notes ≡ 0
-      → Each (SaysFit files x.c x n u past past) ms → Said (stands x (Node n) heads (record nothing_said { notes = notes; messages = ms }))
-  stands-said heads notes ms are quiet each none says own owes placed h =
-      node-said files u x n heads notes [] [] ms x.part own owes placed are quiet each tt (λ q other. refl) (h.told n) (reads-reach u past.wrote p.stay p.row (reads.here n))
-      (subst (λ (i : ℕ). Each (SaysFit files x.c x n u past (now_told files x.c x n u past i [])) ms) (plus-none past.served (served_in notes) none) says) h reads where
-        plus-none : (a b : ℕ) → b ≡ 0 → a ≡ a + b
-        plus-none a b e = omega (arith, e)
+      → Each IsPlain notes → Each (SaysFit files x.c x n u past past) ms → Said (stands x (Node n) heads (record nothing_said { notes = notes; messages = ms }))
+  stands-said heads notes ms are quiet each none plain says own owes placed h =
+      let same : past ≡ now_told files x.c x n u past notes [] = still-told notes none plain in
+      node-said files u x n heads notes [] [] ms x.part own owes placed are quiet each tt (λ q other. refl) (subst (λ (m : SizeMarks). PartLeft files m p) same (h.left n)) (reads-reach u past.wrote p.stay p.row (reads.here n))
+      (subst (λ (m : SizeMarks). Each (SaysFit files x.c x n u past m) ms) same says) h reads
 
   -- a turn, whose notes are those that name a connection, behind others that tell nothing
   does-said : (heads : List Seen) (first : List Rec) (given : NodePart × NodeTurn) → Each IsHead heads → bytes_of (tale_before x (acts files u x n heads (first ++ named_records given.1.notes) given.1.segments given.1.gave given.1.messages (with_node x.part n given.0))) ≡ bytes_of (tale_at x)
-      → Each (IsNoteOf x.c) (first ++ named_records given.1.notes) → served_in (first ++ named_records given.1.notes) ≡ served_in given.1.notes → DeedFits files x.c x n u past (Does given)
+      → Each (IsNoteOf x.c) (first ++ named_records given.1.notes) → served_in (first ++ named_records given.1.notes) ≡ served_in given.1.notes
+      → ((t : TakeOver) → fold (take_over_step x.c) t (first ++ named_records given.1.notes) ≡ fold (take_over_step x.c) t given.1.notes) → DeedFits files x.c x n u past (Does given)
       → Said (acts files u x n heads (first ++ named_records given.1.notes) given.1.segments given.1.gave given.1.messages (with_node x.part n given.0))
-  does-said heads first given are quiet each count t own owes placed h =
-      node-said files u x n heads (first ++ named_records given.1.notes) given.1.segments given.1.gave given.1.messages (with_node x.part n given.0) own owes placed are quiet each t.to
+  does-said heads first given are quiet each count takes t own owes placed h =
+      let named : List Rec = first ++ named_records given.1.notes in
+      let now : List Rec → SizeMarks = λ rs. now_told files x.c x n u past rs given.1.segments in
+      let same : now given.1.notes ≡ now named = λ i. record (now given.1.notes) { served = past.served + sym count i; taken = (sym (takes (past_take_over files x.c x n u past)) i).taken } in
+      node-said files u x n heads named given.1.segments given.1.gave given.1.messages (with_node x.part n given.0) own owes placed are quiet each t.to
       (λ q other. ap (λ b. cond b given.0 (x.part.nodes q)) (other_number q n other))
-      (subst (λ (z : NodePart). RowTold (heard_by x.c past.told given.1.segments) z.row) (sym (put-same x.part.nodes n given.0)) t.row)
+      (subst (λ (m : SizeMarks). PartLeft files m ((with_node x.part n given.0).nodes n)) same (subst (PartLeft files (now given.1.notes)) (sym (put-same x.part.nodes n given.0)) t.left))
       (subst (PartReach u past.wrote) (sym (put-same x.part.nodes n given.0)) t.reach)
-      (subst (λ (i : ℕ). Each (SaysFit files x.c x n u past (now_told files x.c x n u past (past.served + i) given.1.segments)) given.1.messages) (sym count) t.says) h reads
+      (subst (λ (m : SizeMarks). Each (SaysFit files x.c x n u past m) given.1.messages) same t.says) h reads
 
   pub deed-said : (heads : List Seen) (d : NodeDeed) → Each IsHead heads → ((v : NodeDeed) → bytes_of (tale_before x (node_does x n heads v)) ≡ bytes_of (tale_at x)) → DeedFits files x.c x n u past d → Said (node_does x n heads d)
-  deed-said heads Drops are quiet f = stands-said heads [] [] are (quiet Drops) tt refl tt
-  deed-said heads (Says ms) are quiet f = stands-said heads [] ms are (quiet (Says ms)) tt refl f
-  deed-said heads (Does given) are quiet f = does-said heads [] given are (quiet (Does given)) (named-each x.c given.1.notes f.each) (named-served x.c given.1.notes f.each) f
+  deed-said heads Drops are quiet f = stands-said heads [] [] are (quiet Drops) tt refl tt tt
+  deed-said heads (Says ms) are quiet f = stands-said heads [] ms are (quiet (Says ms)) tt refl tt f
+  deed-said heads (Does given) are quiet f = does-said heads [] given are (quiet (Does given)) (named-each x.c given.1.notes f.each) (named-served x.c given.1.notes f.each) (λ t. named-take x.c t given.1.notes) f
 
   -- behind the record of a job
   pub first-said : (i : ℕ) (path : List ℕ) (d : NodeDeed) → DeedFits files x.c x n u past d → Said (reads_first (rec.Read n n x.c i path) (node_does x n [] d))
-  first-said i path Drops f = stands-said [] (rec.Read n n x.c i path ∷ []) [] tt refl (tt, tt) refl tt
-  first-said i path (Says ms) f = stands-said [] (rec.Read n n x.c i path ∷ []) ms tt refl (tt, tt) refl f
-  first-said i path (Does given) f = does-said [] (rec.Read n n x.c i path ∷ []) given tt refl (tt, named-each x.c given.1.notes f.each) (named-served x.c given.1.notes f.each) f
+  first-said i path Drops f = stands-said [] (rec.Read n n x.c i path ∷ []) [] tt refl (tt, tt) refl (tt, tt) tt
+  first-said i path (Says ms) f = stands-said [] (rec.Read n n x.c i path ∷ []) ms tt refl (tt, tt) refl (tt, tt) f
+  first-said i path (Does given) f = does-said [] (rec.Read n n x.c i path ∷ []) given tt refl (tt, named-each x.c given.1.notes f.each) (named-served x.c given.1.notes f.each) (λ t. named-take x.c t given.1.notes) f
 
   -- what is kept was sent before
   sent-says : (now : SizeMarks) (ks : List Kept) → AreSent x (Node n) ks → Each (SaysFit files x.c x n u past now) (map sent_of ks)
@@ -97,9 +106,9 @@ module _ (files : FilesAt) (x : Conn) (n u : ℕ) (reads : Reads u x) where
       (Each-append (SaysFit files x.c x n u past now) (map sent_of p.kept) (map sent_of p.fetches) (sent-says now p.kept (sound.kept n)) (sent-says now p.fetches (sound.fetches n)))
 
   -- the end of a stay is acknowledged
-  gone-told : (o : Option spelling.Said) (row : Option BackRow) → RowTold o (gone row)
-  gone-told o None = tt
-  gone-told o (Some row) = tt
+  gone-left : (m : SizeMarks) (o : Option Stay) (row : Option BackRow) → RowLeft files m o (gone row)
+  gone-left m o None = tt
+  gone-left m o (Some row) = tt
 
   gone-reach : (wrote : List ℕ) (o : Option Stay) (row : Option BackRow) → RowReach u wrote o (gone row)
   gone-reach wrote o None = tt
@@ -124,7 +133,7 @@ module _ (files : FilesAt) (x : Conn) (n u : ℕ) (reads : Reads u x) where
 
 -- ---- the rules
 
-module _ (k : Setting) (small : k.stream ≤ 2 ^ 30) (x : Conn) (number : IsConnNumber x.c) (sound : IsConnSound x) (truth : IsTruthful k.files x) (g : GoesItsWay k.files x) (placed : IsPlaced x) (h : IsTelling x) (u : ℕ) (reads : Reads u x)
+module _ (k : Setting) (small : k.stream ≤ 2 ^ 30) (x : Conn) (number : IsConnNumber x.c) (sound : IsConnSound x) (truth : IsTruthful k.files x) (g : GoesItsWay k.files x) (placed : IsPlaced x) (h : IsTelling k.files x) (u : ℕ) (reads : Reads u x)
     (n epoch : ℕ) (env : NodeEnv) (is : IsNodeEnv k x.c n epoch env) (heads : List Seen) where
   abbrev part : NodePart
   part = x.part.nodes n
@@ -149,8 +158,7 @@ module _ (k : Setting) (small : k.stream ≤ 2 ^ 30) (x : Conn) (number : IsConn
   agreeing b t at =
       let y : StayHolds k small x truth n epoch env is b t = stay-holds k small x truth n epoch env is placed b t at in
       let o : IsOpen k.files x l truth.pend y.station = y.opened in
-      let has : HasIt x l truth.pend o.seat placed n env.epoch = (y.it placed).0 in
-      let home : AtHome env.serve.files (marks_at x) (front_rest x.part.front.rest) n part = at-home env.serve.files x own-way n has.row has.found has.at has.decided in
+      let left : IsTold before.told b × StayLeft k.files before (Some t) = of-here (λ (row : Option BackRow) (stay : Option Stay). RowLeft k.files before stay row) env.epoch part b t at (h.left n) in
       record {
         talk = talk-of k small x y.station y.there l truth.pend o n env epoch is;
         num = record { isn = l.w.first; iss = l.out.first };
@@ -159,10 +167,9 @@ module _ (k : Setting) (small : k.stream ≤ 2 ^ 30) (x : Conn) (number : IsConn
         wrote = o.tale.wrote;
         counted = o.tale.served;
         held = y.held;
-        told = of-here (λ (row : Option BackRow) (stay : Option Stay). RowTold before.told row) env.epoch part b t at (h.told n);
+        told = left.0;
         read = of-here (λ (row : Option BackRow) (stay : Option Stay). RowReads u stay row) env.epoch part b t at (reads.here n);
-        good = stay-good env u l.w l.out l.vs truth.pend n (marks_at x) (front_rest x.part.front.rest) b t y.held.1 y.held.0 o.tale.wrote o.tale.served
-            (subst (StayWays env.serve.files n (marks_at x) (front_rest x.part.front.rest)) at.stays home.stay) home.path n home.others home.first;
+        good = subst (λ (y : FilesAt × List ℕ). HasGoodBehind y.0 before.taken (take (t.served + length t.batch) (verdicts y.1))) (λ i. (sym is.files i, o.tale.wrote i)) left.1;
       }
 
   begins : (parts : EndpointParts) → HasCome x Front n epoch (body.Offer parts) heads → offer_answer env.epoch part.row ≡ New
@@ -191,7 +198,7 @@ module _ (k : Setting) (small : k.stream ≤ 2 ^ 30) (x : Conn) (number : IsConn
         (fires-fit env x n u before l truth.pend part b t (agreeing b t at) (λ now. again-says env.serve.files x n u reads sound now));
     resends = λ m none. again-says k.files x n u reads sound before;
     ends = λ m told.
-        record { each = tt; to = tt; row = gone-told k.files x n u reads before.told part.row; reach = gone-reach k.files x n u reads before.wrote part.stay part.row; says = tt };
+        record { each = tt; to = tt; left = gone-left k.files x n u reads before part.stay part.row; reach = gone-reach k.files x n u reads before.wrote part.stay part.row; says = tt };
   }
 
   pub rule-fits : (g : NodeGets) → IsInItsEpoch env part g → NodeComes x n epoch heads g → Fits (node_rule env part g)
@@ -200,18 +207,18 @@ module _ (k : Setting) (small : k.stream ≤ 2 ^ 30) (x : Conn) (number : IsConn
 module _ (k : Setting) (small : k.stream ≤ 2 ^ 30) where
   -- what is owed of a move, where the laws below hold of its connection
   abbrev pub Owed : Conn → Move → Type 0
-  Owed x v = IsConnNumber x.c → IsConnSound x → IsTruthful k.files x → GoesItsWay k.files x → IsItsOwn x v → Owes x v → IsPlaced x → IsTelling x → (u : ℕ) → Reads u x → IsSaid k.files u x v
+  Owed x v = IsConnNumber x.c → IsConnSound x → IsTruthful k.files x → GoesItsWay k.files x → IsItsOwn x v → Owes x v → IsPlaced x → IsTelling k.files x → (u : ℕ) → Reads u x → IsSaid k.files u x v
 
   content-says : (x : Conn) (n u from epoch r : ℕ) (path : List ℕ) → Each (SaysFit k.files x.c x n u (marks_now x) (marks_now x)) (content_said k n from x.c epoch r path).messages
   content-says x n u from epoch r path = (other-says k.files x n u (marks_now x) (marks_now x) x.c epoch (Node from) (body.Content r (node_place.content_bytes (k.files path))) (λ e. let no : kind.Content ≡ kind.Ask = e in absurd cc), tt)
 
   asides-said : (x : Conn) (n : ℕ) (a : Aside) → MayAside k x n a → Owed x (stands x (Node n) (aside_seen n a) (aside_said k n x.c a))
   asides-said x n (Answers from epoch r path file bytes) may number sound truth g own owes placed h u reads =
-      stands-said k.files x n u reads (packet_seen (Node from) (Node n) bytes) [] (content_said k n from x.c epoch r path).messages (tt, tt) refl tt refl (content-says x n u from epoch r path) own owes placed h
+      stands-said k.files x n u reads (packet_seen (Node from) (Node n) bytes) [] (content_said k n from x.c epoch r path).messages (tt, tt) refl tt refl tt (content-says x n u from epoch r path) own owes placed h
   asides-said x n (Queues from epoch r path file bytes) may number sound truth g own owes placed h u reads =
-      stands-said k.files x n u reads (packet_seen (Node from) (Node n) bytes) (rec.Queued n from x.c r path ∷ []) [] (tt, tt) refl (tt, tt) refl tt own owes placed h
+      stands-said k.files x n u reads (packet_seen (Node from) (Node n) bytes) (rec.Queued n from x.c r path ∷ []) [] (tt, tt) refl (tt, tt) refl (tt, tt) tt own owes placed h
   asides-said x n (Brings from epoch r path) may number sound truth g own owes placed h u reads =
-      stands-said k.files x n u reads [] (rec.Read n from x.c r path ∷ []) (content_said k n from x.c epoch r path).messages tt refl (tt, tt) refl (content-says x n u from epoch r path) own owes placed h
+      stands-said k.files x n u reads [] (rec.Read n from x.c r path ∷ []) (content_said k n from x.c epoch r path).messages tt refl (tt, tt) refl (tt, tt) (content-says x n u from epoch r path) own owes placed h
 
   pub nodes : NodeRules k Owed
   nodes = each-node k Owed (record {

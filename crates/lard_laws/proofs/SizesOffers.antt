@@ -1,6 +1,7 @@
 -- A node that takes a connection asks for what its first batch is.
 use Rattle.std.proofs.Common.{◌≡◌, ◌≤◌, ◌^◌, ℕ, Bool, true, List, [], ◌∷◌, length, take, Option, Some, None, inl, refl, sym, ap, ◌∙◌, subst}
-use Rattle.lard_law_view.specs.Prelude.{Conn, ControlBlock, EndpointParts, FilesAt, Front, IsConnNumber, IsNodeEnv, Node, NodeDeed, NodeEnv, NodePart, Numbers, Place, Setting, SpellsMessage, Station, Stream, Talk, Verdict, Was, Work, batch_of, may_freeze, node_begins, offer_answer, offered_by, parts_of, reads_batch, state_of, taken_sent, verdicts}
+use Rattle.std.specs.List.{fold}
+use Rattle.lard_law_view.specs.Prelude.{Conn, ControlBlock, EndpointParts, FilesAt, Front, IsConnNumber, IsNodeEnv, Node, NodeDeed, NodeEnv, NodePart, Numbers, Place, Rec, Setting, SpellsMessage, Station, Stream, Talk, Verdict, Was, Work, batch_of, goes_on, may_freeze, node_begins, offer_answer, offered_by, parts_of, reads_batch, serving_settled, state_of, taken_sent}
 use Rattle.lard_law_connections.specs.BytesAgreement.{FrontHolds, IsOpen}
 use Rattle.lard_law_connections.specs.BytesKeeping.{IsTalk}
 use Rattle.lard_law_connections.proofs.BytesNodeTurns.{talk-of}
@@ -8,13 +9,15 @@ use Rattle.lard_law_connections.proofs.BytesServing.{MayGo, So, go-on}
 use Rattle.lard_law_connections.proofs.BytesStays.{offered-so}
 use Rattle.lard_law_connections.proofs.BytesWorking.{Right, Works, first-so, goes-so}
 use Rattle.lard_law_connections.proofs.BytesWays.{batch-right}
+use Rattle.lard_law_connections.proofs.PlacesLoops.{settled-is}
+use Rattle.lard_law_connections.proofs.PlacesNodeRules.{Begins, begun-notes, took_by}
 use Rattle.lard_law_connections.proofs.PlacesTurns.{IsPlaced}
-use Rattle.lard_laws.specs.Sizes.{SizeMarks}
-use Rattle.lard_laws.proofs.SizesReading.{Fits, first-fits, gone-all}
+use Rattle.lard_laws.specs.Sizes.{SizeMarks, TakeOver, take_over_step}
+use Rattle.lard_laws.proofs.SizesReading.{Fits, first-fits}
+use Rattle.lard_laws.proofs.SizesTaken.{begun-taken}
 use Rattle.lard_laws.proofs.SizesTelling.{IsQuiet, batch-state, wider-quiet}
-use Rattle.lard_laws.proofs.SizesTurns.{DeedFits, Reads, SaysFit, goes-on-fits, other-says}
+use Rattle.lard_laws.proofs.SizesTurns.{DeedFits, Reads, SaysFit, goes-on-fits, other-says, past_take_over}
 use Rattle.lard_laws.specs.WaysState.{BeginsWithRequest, GoesItsWay, marks_at}
-use Rattle.lard_laws.specs.Ways.{good_paths}
 use Rattle.lard_laws.specs.Ways as ways_specs
 use Rattle.lard_handoff_back.specs.declared.table.Adopt.TheVariants.{New}
 use Rattle.lard_history.proofs.Each.{Each}
@@ -32,9 +35,9 @@ module _ (env : NodeEnv) (x : Conn) (n u : ℕ) (past : SizeMarks) (w out : Stre
   taken-says : (now : SizeMarks) → Each (SaysFit fs env.serve.c x n u past now) (taken_sent env)
   taken-says now = (other-says fs x n u past now env.serve.c env.epoch Front body.Taken (λ e. let no : kind.Taken ≡ kind.Ask = e in absurd cc), tt)
 
-  pub takes-fit : (b : ControlBlock) (count : ℕ) → FrontHolds w out vs pend b count → may_freeze b ≡ true → (path : List ℕ) → good_paths fs (take count (verdicts w.bytes)) ≡ [] → BeginsWithRequest fs b.recv.unread path → count ≡ u
+  pub takes-fit : (b : ControlBlock) (count : ℕ) → FrontHolds w out vs pend b count → may_freeze b ≡ true → (path : List ℕ) → BeginsWithRequest fs b.recv.unread path → count ≡ u → count ≡ past.served
       → DeedFits fs env.serve.c x n u past (offered_by env (parts_of b count) p New)
-  takes-fit b count h frozen path answered begins_with upto =
+  takes-fit b count h frozen path begins_with upto answered =
       let k : Work = node_begins env (parts_of b count) in
       let so : So env.serve w out vs k.service [] = offered-so env w out vs was_reset talk pend p b count h frozen in
       let may : MayGo w so.vs_now [] k.service = go-on env.serve w out vs k.service [] so refl refl refl in
@@ -43,10 +46,14 @@ module _ (env : NodeEnv) (x : Conn) (n u : ℕ) (past : SizeMarks) (w out : Stre
       let right : Right env w out vs v = batch-right env true k refl tt in
       let us : List Verdict = take 7 begins_with.others in
       let is : batch_of 8 b.recv.unread ≡ begins_with.first ∷ us = ap (take 8) begins_with.are in
-      let before : good_paths fs so.vs_now ≡ [] = ap (good_paths fs) (sym (gone-all env w out vs u k so may (begins_with.first ∷ us) is)) ∙ answered in
-      let fits : Fits env w out vs u v = first-fits env w out vs u k so may refl refl refl begins_with.first us path is begins_with.good before upto in
+      let fits : Fits env w out vs u past.served v = first-fits env w out vs u past.served k so may refl refl refl begins_with.first us path is begins_with.good upto answered in
       let quiet : IsQuiet past.told v.service.block = wider-quiet past.told k.service.block v.service.block (batch-state env true k refl) (λ calm. inl refl) in
-      goes-on-fits env x n u past w out vs talk num numbers isn wrote counted p (taken_sent env) taken-says v works right fits quiet (goes-so env w out vs talk.most v works right)
+      let begins : Begins (took_by env) (serving_settled env.serve (goes_on env v).service).1.notes = begun-notes env (parts_of b count) in
+      let start : TakeOver = past_take_over fs env.serve.c x n u past in
+      let took : (fold (take_over_step env.serve.c) start (goes_on env v).service.notes).taken ≡ past.served =
+      ap (λ (rs : List Rec). (fold (take_over_step env.serve.c) start rs).taken) (sym (settled-is env.serve (goes_on env v).service).notes ∙ begins.1)
+      ∙ begun-taken env.serve.c start env.n (record { 0 = env.epoch }) begins.0 begins.2 in
+      goes-on-fits env x n u past.served past w out vs talk num numbers isn wrote counted p (taken_sent env) taken-says v works right fits quiet (goes-so env w out vs talk.most v works right) took
 
 -- ---- an Offer that comes
 
@@ -73,7 +80,6 @@ module _ (k : Setting) (small : k.stream ≤ 2 ^ 30) (x : Conn) (number : IsConn
   new-fits new =
       let at : IsTaken files x l pend n epoch parts = new-taken k small x s there l pend o n epoch env is parts bytes spells was placed number g new in
       let count : m.served ≡ at.offering.count = o.tale.served ∙ sym at.offering.holds.holds.counted in
-      let answered : good_paths files (take at.offering.count (verdicts l.w.bytes)) ≡ [] = (λ i. good_paths files (take (sym count i) (verdicts (sym o.tale.wrote i)))) ∙ at.once.answered in
       let upto : at.offering.count ≡ u = sym (reads.away (λ i e. let no : ◌≡◌ {A = Option Place} None (Some (Node i)) = sym at.nobody ∙ e in absurd cc) ∙ count) in
       subst (λ (q : EndpointParts). Goal (offered_by env q p New)) (sym at.same)
-      (takes-fit env x n u past l.w l.out l.vs pend l.was_reset talk num numbers isn wrote counted p at.offering.block at.offering.count at.offering.holds at.offering.frozen at.once.path answered at.next upto)
+      (takes-fit env x n u past l.w l.out l.vs pend l.was_reset talk num numbers isn wrote counted p at.offering.block at.offering.count at.offering.holds at.offering.frozen at.once.path at.next upto (at.offering.holds.holds.counted ∙ sym counted))

@@ -2,17 +2,17 @@
 use Rattle.std.proofs.Common.{◌≡◌, ◌≢◌, ◌⊎◌, ◌≤◌, ◌<◌, ◌+◌, ◌-◌, ◌^◌, ℕ, zero, suc, true, false, nat_lt, List, [], ◌∷◌, ◌++◌, map, length, min, take, drop, ◌*◌, Option, Some, None, inl, inr, ⊎_elim, refl, sym, ap, ◌∙◌, subst, arith, append_assoc, append-nil}
 use Rattle.std.proofs.Math.Seq.{drop-append_seam, take-append_seam}
 use Rattle.std.proofs.lemmas.Bool.{and_parts, cond_both, not-true}
-use Rattle.std.proofs.lemmas.List.{length-append, length-take}
+use Rattle.std.proofs.lemmas.List.{drop_all, length-append, length-take, take-append-drop}
 use Rattle.lard_law_view.specs.Prelude.{Asked, ControlBlock, Entry, FilesAt, IsPrefix, NodeEnv, Progress, Service, Stream, Verdict, Via, Work, and_path, answer, answered, asks_for, batch_of, blocks, bytes_used, closed_behind, closes, discarding_on, ended_at_fin, enters, enters_first, finishing, goes_on, good_path, left_by, may_read, named_path, named_paths, passed_over, path_in, progress_of, queued, queueing, read_entry, reads_batch, reads_these, serves_with, serving_consumed, started_here, state_of, until_close, verdicts, verdicts_on}
 use Rattle.lard_answers.proofs.Following.{until_close-behind}
-use Rattle.lard_answers.proofs.Growing.{verdicts-are}
+use Rattle.lard_answers.proofs.Growing.{verdicts-are, verdicts-grow}
 use Rattle.lard_law_connections.proofs.BytesReading.{batch-read, read-alone}
 use Rattle.lard_law_connections.proofs.BytesServing.{MayGo, So, may-go}
 use Rattle.lard_law_connections.proofs.BytesWorking.{Right, Works, verdicts_of, going_so}
 use Rattle.lard_laws.specs.Sizes.{batch_behind, to_assign}
 use Rattle.lard_laws.specs.Ways.{good_paths}
 use Rattle.lard_laws.proofs.WaysEntering.{Begun, Enters, begun-none, enters-both, here-begins, read-enter}
-use Rattle.lard_laws.proofs.WaysGoods.{good-append, prefix-take}
+use Rattle.lard_laws.proofs.WaysGoods.{prefix-take}
 use Rattle.lard_laws.proofs.WaysLying.{named-append}
 use Rattle.lard_law_view.proofs.ReadingBytes.{IsJudged, place, read-came}
 use Rattle.lard_rules.specs.declared.stay.Progress.TheVariants as progress
@@ -25,15 +25,36 @@ module _ (files : FilesAt) where
   and-none None ps e = (refl, e)
   and-none (Some path) ps e = let no : path ∷ ps ≡ [] = e in absurd cc
 
-  -- where none is for a file of more requests, none is of fewer
-  pub none-fewer : (n m : ℕ) (vs : List Verdict) → n ≤ m → good_paths files (take m vs) ≡ [] → good_paths files (take n vs) ≡ []
-  none-fewer zero m [] le e = refl
-  none-fewer zero m (v ∷ vs) le e = refl
-  none-fewer (suc n) zero vs le e = absurd (omega (arith, le))
-  none-fewer (suc n) (suc m) [] le e = refl
-  none-fewer (suc n) (suc m) (v ∷ vs) le e =
+  -- one of these is for a file, behind the first t
+  abbrev pub HasGoodBehind : ℕ → List Verdict → Type 0
+  HasGoodBehind t vs = good_paths files (drop t vs) ≢ []
+
+  -- where none is of more requests, none is of fewer
+  none-fewer : (t n m : ℕ) (vs : List Verdict) → n ≤ m → good_paths files (drop t (take m vs)) ≡ [] → good_paths files (drop t (take n vs)) ≡ []
+  none-fewer t n zero vs le e = ap (λ (i : ℕ). good_paths files (drop t (take i vs))) (let f : n ≡ 0 = omega (arith, le) in f) ∙ e
+  none-fewer zero zero (suc m) vs le e = refl
+  none-fewer (suc t) zero (suc m) [] le e = refl
+  none-fewer (suc t) zero (suc m) (v ∷ vs) le e = refl
+  none-fewer t (suc n) (suc m) [] le e = e
+  none-fewer zero (suc n) (suc m) (v ∷ vs) le e =
       let both = and-none (good_path files v) (good_paths files (take m vs)) e in
-      ap (λ (o : Option (List ℕ)). and_path o (good_paths files (take n vs))) both.0 ∙ none-fewer n m vs (omega (arith, le)) both.1
+      ap (λ (o : Option (List ℕ)). and_path o (good_paths files (take n vs))) both.0 ∙ none-fewer zero n m vs (omega (arith, le)) both.1
+  none-fewer (suc t) (suc n) (suc m) (v ∷ vs) le e = none-fewer t n m vs (omega (arith, le)) e
+
+  good-more : (t n m : ℕ) (vs : List Verdict) → n ≤ m → HasGoodBehind t (take n vs) → HasGoodBehind t (take m vs)
+  good-more t n m vs le h e = h (none-fewer t n m vs le e)
+
+  -- so it stays as the client writes more
+  pub good-grows : (t n : ℕ) (q z : List ℕ) → HasGoodBehind t (take n (verdicts q)) → HasGoodBehind t (take n (verdicts (q ++ z)))
+  good-grows t n q z h =
+      let vs : List Verdict = verdicts q in
+      let more : IsPrefix vs (verdicts (q ++ z)) = verdicts-grow q z in
+      let front : IsPrefix (take n vs) (verdicts (q ++ z)) = (
+        drop n vs ++ more.0,
+        more.1 ∙ ap (λ (l : List Verdict). l ++ more.0) (sym (take-append-drop n vs)) ∙ append_assoc (take n vs) (drop n vs) more.0,
+      ) in
+      good-more t (length (take n vs)) n (verdicts (q ++ z)) (let size = length-take n vs in omega (arith, size))
+      (subst (HasGoodBehind t) (sym (prefix-take (take n vs) (verdicts (q ++ z)) front)) h)
 
   -- a request as it is read is named where it is for a file
   read-named : (v : Verdict) → named_path files (read_entry files v) ≡ good_path files v
@@ -88,7 +109,8 @@ next-begins u n all h less = ⊎_elim
     (λ (e : n ≡ u). (0, (let f : n ≡ u + 8 * 0 = omega (arith, e) in f)))
     (λ (r : IsReadOn u n n all). let e = r.is in let b = r.begun in (r.batches + 1, (let f : n ≡ u + 8 * (r.batches + 1) = omega (arith, e, b, less) in f))) h
 
-module _ (env : NodeEnv) (w out : Stream) (vs : List Verdict) (u : ℕ) where
+-- where u requests were read before the turn, and t were answered before the node took the connection
+module _ (env : NodeEnv) (w out : Stream) (vs : List Verdict) (u t : ℕ) where
   abbrev files : FilesAt
   files = env.serve.files
 
@@ -108,24 +130,21 @@ module _ (env : NodeEnv) (w out : Stream) (vs : List Verdict) (u : ℕ) where
     pub some : a.paths ≢ []
     pub calm : k.service.block.reset ≡ false
     pub size_is : a.size ≡ length (batch_behind before (whole k.service.block.recv.got))
-    pub paths_are : a.paths ≡ to_assign (good_paths files (take before (whole k.service.block.recv.got))) (good_paths files (batch_behind before (whole k.service.block.recv.got)))
+    pub paths_are : a.paths ≡ to_assign (good_paths files (drop t (take before (whole k.service.block.recv.got)))) (good_paths files (batch_behind before (whole k.service.block.recv.got)))
 
   abbrev pub AskSo : Work → Option Asked → Type 0
   AskSo k None = Unit {0}
   AskSo k (Some a) = IsAsked k a
 
-  -- one of so many requests is for a file
+  -- one of so many requests that were read since then is for a file
   abbrev pub HasGood : ℕ → Type 0
-  HasGood n = good_paths files (take n (verdicts w.bytes)) ≢ []
+  HasGood n = HasGoodBehind files t (take n (verdicts w.bytes))
 
   -- So it is of the Ask in hand; one of the requests that were read is for a file, and so many were read in batches.
   pub record Fits (k : Work) : Type 0 where
     pub good : HasGood (k.service.count + length k.batch)
     pub reach : Reach u k.service.count (k.service.count + length k.batch) (length (whole k.service.block.recv.got))
     pub asked : AskSo k k.asked
-
-  good-more : (n m : ℕ) → n ≤ m → HasGood n → HasGood m
-  good-more n m le h e = h (none-fewer files n m (verdicts w.bytes) le e)
 
   -- ---- a batch is read
 
@@ -198,7 +217,7 @@ module _ (env : NodeEnv) (w out : Stream) (vs : List Verdict) (u : ℕ) where
 
     -- requests were entered, and an Ask names those that are to be assigned
     pub asks-fit : (all : Work) → all.service.count ≡ n → all.service.block.recv.got ≡ got → all.service.block.reset ≡ false → length all.batch ≡ length us → all.asked ≡ None
-        → named_paths files all.batch ≡ to_assign (good_paths files h.vs_now) (good_paths files us) → HasGood (n + length us) → (i : ℕ) → n ≡ u + 8 * i
+        → named_paths files all.batch ≡ to_assign (good_paths files (drop t h.vs_now)) (good_paths files us) → HasGood (n + length us) → (i : ℕ) → n ≡ u + 8 * i
         → (paths : List (List ℕ)) → named_paths files all.batch ≡ paths → Fits (asks_for env (length us) paths all)
     asks-fit all count same calm size none names good i begins [] are = record {
       good = subst HasGood (λ j. sym count j + sym size j) good;
@@ -218,8 +237,8 @@ module _ (env : NodeEnv) (w out : Stream) (vs : List Verdict) (u : ℕ) where
         some = λ e. let no : path ∷ paths ≡ [] = e in absurd cc;
         calm = calm;
         size_is = ap length (sym batch-is) ∙ ap (λ (g : ℕ). length (batch_behind n (whole g))) (sym same);
-        paths_are = sym are ∙ names ∙ (λ i. to_assign (good_paths files (sym gone-are i)) (good_paths files (sym batch-is i)))
-            ∙ ap (λ (g : ℕ). to_assign (good_paths files (take n (whole g))) (good_paths files (batch_behind n (whole g)))) (sym same);
+        paths_are = sym are ∙ names ∙ (λ i. to_assign (good_paths files (drop t (sym gone-are i))) (good_paths files (sym batch-is i)))
+            ∙ ap (λ (g : ℕ). to_assign (good_paths files (drop t (take n (whole g)))) (good_paths files (batch_behind n (whole g)))) (sym same);
       };
     }
 
@@ -251,14 +270,14 @@ module _ (env : NodeEnv) (w out : Stream) (vs : List Verdict) (u : ℕ) where
       let batch : all.batch ≡ map (read_entry files) (v ∷ us) = e.batch ∙ ap (λ (es : List Entry). es ++ map (read_entry files) (v ∷ us)) none in
       let quiet : k.asked ≡ None = none-asked k k.asked refl none fits.asked in
       let now : HasGood k.service.count = subst HasGood (ap (λ (es : List Entry). k.service.count + length es) none ∙ plus-none k.service.count) fits.good in
-      let some : good_paths files h.vs_now ≢ [] = λ f. now (ap (good_paths files) (gone-all k h go (v ∷ us) is) ∙ f) in
-      let names : named_paths files all.batch ≡ to_assign (good_paths files h.vs_now) (good_paths files (v ∷ us)) =
-      ap (named_paths files) batch ∙ all-named files (v ∷ us) ∙ sym (some-assigned (good_paths files h.vs_now) (good_paths files (v ∷ us)) some) in
+      let some : HasGoodBehind files t h.vs_now = λ f. now (ap (λ (l : List Verdict). good_paths files (drop t l)) (gone-all k h go (v ∷ us) is) ∙ f) in
+      let names : named_paths files all.batch ≡ to_assign (good_paths files (drop t h.vs_now)) (good_paths files (v ∷ us)) =
+      ap (named_paths files) batch ∙ all-named files (v ∷ us) ∙ sym (some-assigned (good_paths files (drop t h.vs_now)) (good_paths files (v ∷ us)) some) in
       let reach : Reach u k.service.count k.service.count (length (whole k.service.block.recv.got)) =
       subst (λ (i : ℕ). Reach u k.service.count i (length (whole k.service.block.recv.got))) (ap (λ (es : List Entry). k.service.count + length es) none ∙ plus-none k.service.count) fits.reach in
       let begun = next-begins u k.service.count (length (whole k.service.block.recv.got)) reach (some-left k h go (v ∷ us) is (omega arith)) in
       asks-fit k h go (v ∷ us) is all (ap (λ (s : Service). s.count) e.service) (ap (λ (s : Service). s.block.recv.got) e.service) (ap (λ (s : Service). s.block.reset) e.service ∙ may-calm k.service may)
-      (ap length batch ∙ length-read (v ∷ us)) (e.asked ∙ quiet) names (good-more k.service.count (k.service.count + length (v ∷ us)) (omega arith) now) begun.0 begun.1 (named_paths files all.batch) refl
+      (ap length batch ∙ length-read (v ∷ us)) (e.asked ∙ quiet) names (good-more files t k.service.count (k.service.count + length (v ∷ us)) (verdicts w.bytes) (omega arith) now) begun.0 begun.1 (named_paths files all.batch) refl
     where
       plus-none : (n : ℕ) → n + 0 ≡ n
       plus-none n = omega arith
@@ -271,18 +290,25 @@ module _ (env : NodeEnv) (w out : Stream) (vs : List Verdict) (u : ℕ) where
   unfolding enters
   enters-good i v us path start good = ap (λ (o : Option (List ℕ)). enters env (enters_first env i v start o).0 (i + 1) us (enters_first env i v start o).1) good
 
-  -- the first batch of a stay: its first request is the one that was assigned
+  -- the first batch of a stay, where the node took it behind what is answered: its first request is the one that was assigned
   pub first-fits : (k : Work) (h : So env.serve w out vs k.service []) → MayGo w h.vs_now [] k.service → k.batch ≡ [] → k.asked ≡ None → k.service.block.reset ≡ false → (v : Verdict) (us : List Verdict) (path : List ℕ) → batch_of 8 k.service.block.recv.unread ≡ v ∷ us
-      → good_path files v ≡ Some path → good_paths files h.vs_now ≡ [] → k.service.count ≡ u → Fits (state_of (reads_batch env true k))
-  first-fits k h go none quiet calm v us path is good before same_upto = subst (λ (all : List Verdict). Fits (state_of (reads_these env true (bytes_used 8 k.service.block.recv.unread) k all))) (sym is)
+      → good_path files v ≡ Some path → k.service.count ≡ u → k.service.count ≡ t → Fits (state_of (reads_batch env true k))
+  first-fits k h go none quiet calm v us path is good same_upto took = subst (λ (all : List Verdict). Fits (state_of (reads_these env true (bytes_used 8 k.service.block.recv.unread) k all))) (sym is)
       (subst (λ (u : Work). Fits (asks_for env (length (v ∷ us)) (named_paths files u.batch) u)) (sym same)
       (asks-fit k h go (v ∷ us) is all (ap (λ (s : Service). s.count) e.service) (ap (λ (s : Service). s.block.recv.got) e.service) (ap (λ (s : Service). s.block.reset) e.service ∙ calm)
       (ap length batch ∙ ap suc (length-read us)) (e.asked ∙ quiet) names now 0 (let f : k.service.count ≡ u + 8 * 0 = omega (arith, same_upto) in f) (named_paths files all.batch) refl)) where
+        -- so many were answered before
+        behind : length h.vs_now ≡ t
+        behind = sym h.counted ∙ took
+
+        before : good_paths files (drop t h.vs_now) ≡ []
+        before = ap (good_paths files) (drop_all t h.vs_now (omega (arith, behind)))
+
         now : HasGood (k.service.count + length (v ∷ us))
         now f =
-            let whole_none : good_paths files h.vs_now ++ (path ∷ good_paths files us) ≡ [] =
-            ap (λ (l : List (List ℕ)). good_paths files h.vs_now ++ l) (sym (good-first files v us path good)) ∙ sym (good-append files h.vs_now (v ∷ us)) ∙ ap (good_paths files) (sym (read-all k h go (v ∷ us) is)) ∙ f in
-            let no : path ∷ good_paths files us ≡ [] = ap (λ (l : List (List ℕ)). l ++ (path ∷ good_paths files us)) (sym before) ∙ whole_none in
+            let seam : drop t (h.vs_now ++ (v ∷ us)) ≡ v ∷ us = ap (λ (i : ℕ). drop i (h.vs_now ++ (v ∷ us))) (sym behind) ∙ drop-append_seam h.vs_now (v ∷ us) in
+            let no : path ∷ good_paths files us ≡ [] =
+            sym (good-first files v us path good) ∙ ap (good_paths files) (sym seam) ∙ ap (λ (l : List Verdict). good_paths files (drop t l)) (sym (read-all k h go (v ∷ us) is)) ∙ f in
             absurd cc
 
         n : ℕ
@@ -309,11 +335,11 @@ module _ (env : NodeEnv) (w out : Stream) (vs : List Verdict) (u : ℕ) where
         batch : all.batch ≡ (b.entry ∷ []) ++ map (read_entry files) us
         batch = e.batch ∙ ap (λ (es : List Entry). es ++ ((b.entry ∷ []) ++ map (read_entry files) us)) none
 
-        names : named_paths files all.batch ≡ to_assign (good_paths files h.vs_now) (good_paths files (v ∷ us))
+        names : named_paths files all.batch ≡ to_assign (good_paths files (drop t h.vs_now)) (good_paths files (v ∷ us))
         names = ap (named_paths files) batch ∙ named-append files env.n (b.entry ∷ []) (map (read_entry files) us)
             ∙ (λ i. begun-none env env.n env.n v start one b i ++ all-named files us i)
-            ∙ sym (none-assigned (good_paths files h.vs_now) (good_paths files us) path before)
-            ∙ ap (to_assign (good_paths files h.vs_now)) (sym (good-first files v us path good))
+            ∙ sym (none-assigned (good_paths files (drop t h.vs_now)) (good_paths files us) path before)
+            ∙ ap (to_assign (good_paths files (drop t h.vs_now))) (sym (good-first files v us path good))
 
         length-read : (us : List Verdict) → length (map (read_entry files) us) ≡ length us
         length-read [] = refl
@@ -340,7 +366,7 @@ module _ (env : NodeEnv) (w out : Stream) (vs : List Verdict) (u : ℕ) where
       some = h.some;
       calm = calm ∙ h.calm;
       size_is = h.size_is ∙ ap (λ (g : ℕ). length (batch_behind h.before (whole g))) (sym got);
-      paths_are = h.paths_are ∙ ap (λ (g : ℕ). to_assign (good_paths files (take h.before (whole g))) (good_paths files (batch_behind h.before (whole g)))) (sym got);
+      paths_are = h.paths_are ∙ ap (λ (g : ℕ). to_assign (good_paths files (drop t (take h.before (whole g)))) (good_paths files (batch_behind h.before (whole g)))) (sym got);
     }
 
     fit : (es : List Entry) → s.count + length es ≡ k.service.count + length k.batch → k.service.count ≤ s.count → named_paths files es ≡ named_paths files k.batch → Fits (record k { service = s; batch = es })

@@ -18,6 +18,7 @@ use Rattle.lard_laws.specs.Sizes.{AsksTo, BatchesHaveTheirSize, BodyIsOfBatch, S
 use Rattle.lard_laws.proofs.SizesDone.{now-reads}
 use Rattle.lard_laws.proofs.SizesMoving.{AllFit, IsNoNode, IsSaid, IsTelling, Reaches, SeenFits, SentFits, all-fit, else-said, else-sends, marks_now, seen_marks}
 use Rattle.lard_laws.proofs.SizesNodes.{Owed, nodes, stands-said}
+use Rattle.lard_laws.proofs.SizesTaken.{take-own}
 use Rattle.lard_laws.proofs.SizesTurns.{Reads, reads-reach}
 use Rattle.lard_law_connections.proofs.StopsRuns.{connections-stop}
 use Rattle.lard_law_view.proofs.After.{IsAfter, step-after}
@@ -54,27 +55,27 @@ injected-touches x s bytes =
 module _ (k : Setting) (small : k.stream ≤ 2 ^ 30) where
   -- what is owed of a move, by what is known of it
   abbrev Rest : Conn → Move → Type 0
-  Rest x v = Known x v → IsTruthful k.files x → GoesItsWay k.files x → IsItsOwn x v → places.Owes x v → IsPlaced x → IsTelling x → (u : ℕ) → Reads u x → IsSaid k.files u x v
+  Rest x v = Known x v → IsTruthful k.files x → GoesItsWay k.files x → IsItsOwn x v → places.Owes x v → IsPlaced x → IsTelling k.files x → (u : ℕ) → Reads u x → IsSaid k.files u x v
 
   abbrev Wants : Conn → Move → Type 0
   Wants x v = IsConnNumber x.c → IsConnSound x → Rest x v
 
   client-wants : (x : Conn) (v : Move) → IsAtClient x v → Rest x v
-  client-wants x v at more truth g own owes placed h u reads = else-said x v own owes placed more.heads k.files (subst IsNoNode (sym at.client) tt) at.keeps.1 h u reads
+  client-wants x v at more truth g own owes placed h u reads = else-said k.files x v own owes placed more.heads (subst IsNoNode (sym at.client) tt) at.keeps.1 h u reads
 
   front-wants : (x : Conn) (heads : List Seen) (d : front.FrontDeed) → Wants x (front_does x heads d)
-  front-wants x heads front.Drops number sound more truth g own owes placed h u reads = else-said x (front_does x heads front.Drops) own owes placed more.heads k.files tt refl h u reads
-  front-wants x heads (front.Says turn) number sound more truth g own owes placed h u reads = else-said x (front_does x heads (front.Says turn)) own owes placed more.heads k.files tt refl h u reads
-  front-wants x heads (front.Does did) number sound more truth g own owes placed h u reads = else-said x (front_does x heads (front.Does did)) own owes placed more.heads k.files tt refl h u reads
+  front-wants x heads front.Drops number sound more truth g own owes placed h u reads = else-said k.files x (front_does x heads front.Drops) own owes placed more.heads tt refl h u reads
+  front-wants x heads (front.Says turn) number sound more truth g own owes placed h u reads = else-said k.files x (front_does x heads (front.Says turn)) own owes placed more.heads tt refl h u reads
+  front-wants x heads (front.Does did) number sound more truth g own owes placed h u reads = else-said k.files x (front_does x heads (front.Does did)) own owes placed more.heads tt refl h u reads
 
   fronts : FrontRules k Wants
   fronts = each-front k Wants (λ x env heads g is comes. front-wants x heads (front_rule env x.part.front g))
 
   -- a packet comes, and nothing is done
   ignores-want : (x : Conn) (from to : Place) (bytes : List ℕ) → Wants x (stands x to (packet_seen from to bytes) nothing_said)
-  ignores-want x from Front bytes number sound more truth g own owes placed h u reads = else-said x (stands x Front (packet_seen from Front bytes) nothing_said) own owes placed more.heads k.files tt refl h u reads
-  ignores-want x from (Client d) bytes number sound more truth g own owes placed h u reads = else-said x (stands x (Client d) (packet_seen from (Client d) bytes) nothing_said) own owes placed more.heads k.files tt refl h u reads
-  ignores-want x from (Node n) bytes number sound more truth g own owes placed h u reads = stands-said k.files x n u reads (packet_seen from (Node n) bytes) [] [] (tt, tt) refl tt refl tt own owes placed h
+  ignores-want x from Front bytes number sound more truth g own owes placed h u reads = else-said k.files x (stands x Front (packet_seen from Front bytes) nothing_said) own owes placed more.heads tt refl h u reads
+  ignores-want x from (Client d) bytes number sound more truth g own owes placed h u reads = else-said k.files x (stands x (Client d) (packet_seen from (Client d) bytes) nothing_said) own owes placed more.heads tt refl h u reads
+  ignores-want x from (Node n) bytes number sound more truth g own owes placed h u reads = stands-said k.files x n u reads (packet_seen from (Node n) bytes) [] [] (tt, tt) refl tt refl tt tt own owes placed h
 
   wants : UntouchedRules k Wants
   wants = record {
@@ -100,11 +101,11 @@ module _ (k : Setting) (small : k.stream ≤ 2 ^ 30) where
 
   -- behind it the client was told all that came, and so many requests were read, u before it
   abbrev pub Lands : ℕ → Conn → Type 0
-  Lands u x = IsTelling x × Reaches u x
+  Lands u x = IsTelling k.files x × Reaches u x
 
   -- what its Asks say is so, and it lands, unless the schedule touched the connection
   abbrev pub Says : Conn → Move → Type 0
-  Says x v = MayRestOn Given x → (tale_at x).touched ≡ false → IsTelling x → (u : ℕ) → Reads u x → AllFit k.files u x v × Untouched (Lands u) (grown x v)
+  Says x v = MayRestOn Given x → (tale_at x).touched ≡ false → IsTelling k.files x → (u : ℕ) → Reads u x → AllFit k.files u x v × Untouched (Lands u) (grown x v)
 
   said : (x : Conn) (v : Move) → All x v → Says x v
   said x v h may untouched telling u reads =
@@ -133,6 +134,7 @@ marks-own J c =
       numbers = (ap (λ (t : Tale). t.numbers) tale_is ∙ sym (numbers-tale J c)) i;
       wrote = (ap (λ (t : Tale). t.wrote) tale_is ∙ sym (wrote-tale J c)) i;
       served = (ap (λ (t : Tale). t.served) tale_is ∙ sym (served-tale J c)) i;
+      taken = (sym (take-own c J) i).taken;
       told = sym ((stands-told c J).told_is) i;
     }
 
@@ -208,7 +210,7 @@ module _ (config : Config) (files : List (List ℕ × List ℕ)) (small : config
 
   -- what is known in each state
   abbrev IsAsRead : ℕ → Conn → Type 0
-  IsAsRead u x = IsTelling x × Reads u x
+  IsAsRead u x = IsTelling k.files x × Reads u x
 
   abbrev IsKnownOf : Machine → Type 0
   IsKnownOf m = (q : ℕ) → Untouched (IsAsRead (requests_read m.journal q)) (conn m q)
@@ -251,7 +253,7 @@ module _ (config : Config) (files : List (List ℕ × List ℕ)) (small : config
 
   start-known : IsKnownOf (machine_start config files)
   start-known q = subst (Untouched (IsAsRead (requests_read [] q))) (sym (start-blank config files q))
-      (λ t. (record { seen = λ l has. absurd has; told = λ n. tt }, record { here = λ n. tt; away = λ h. refl }))
+      (λ t. (record { seen = λ l has. absurd has; left = λ n. tt }, record { here = λ n. tt; away = λ h. refl }))
 
   -- and each step so far is as it must be
   record IsSoFar (m : Machine) : Type 0 where

@@ -1,16 +1,17 @@
 -- What a turn of a node leaves: its client was told all that came, and an Ask says what its batch is.
 use Rattle.std.proofs.Common.{◌≡◌, ◌≢◌, ◌⊎◌, ◌≤◌, ◌<◌, ◌+◌, ◌-◌, ◌*◌, ◌/◌, ◌^◌, ℕ, min, Bool, true, false, List, [], ◌∷◌, ◌++◌, length, take, drop, Option, Some, None, Ok, inl, inr, refl, sym, ap, ◌∙◌, subst, arith}
 use Rattle.std.proofs.lemmas.List.{length-take, take-append-drop, take_all}
-use Rattle.lard_law_view.specs.Prelude.{Asked, BackConn, BackRow, Body, Client, Conn, ControlBlock, Ending, Entry, FilesAt, Front, Hears, IsStream, Message, Node, NodeDeed, NodeEnv, NodePart, NodeTurn, Numbers, Place, Received, Said, Service, Stay, Stream, Turn, Verdict, Want, Was, Work, asked_sent, awaited, decoded_message, ended_sent, goes_on, kept_after, kind_of, named_paths, one_if, rcv_nxt, seq_add, seq_offset, served_in, serving_settled, tale_at, verdicts, wants_sent, with_work}
+use Rattle.std.specs.List.{fold}
+use Rattle.lard_law_view.specs.Prelude.{Asked, BackConn, BackRow, Body, Client, Conn, ControlBlock, Ending, Entry, FilesAt, Front, Hears, IsStream, Message, Node, NodeDeed, NodeEnv, NodePart, NodeTurn, Numbers, Place, Rec, Received, Service, Stay, Stream, Turn, Verdict, Want, Was, Work, asked_sent, awaited, decoded_message, ended_sent, goes_on, kept_after, kind_of, named_paths, one_if, rcv_nxt, seq_add, seq_offset, served_in, serving_settled, tale_at, verdicts, wants_sent, with_work}
 use Rattle.lard_law_connections.specs.BytesKeeping.{IsTalk}
 use Rattle.lard_law_connections.specs.BytesTurning.{IsNoteOf}
 use Rattle.lard_law_connections.proofs.BytesWorking.{Right, Works}
 use Rattle.lard_law_connections.proofs.LineHolding.{EndsHeld, IsHeld}
 use Rattle.lard_law_connections.proofs.LineSpeaking.{IsTold, heard_by}
-use Rattle.lard_laws.specs.Sizes.{BodyIsOfBatch, IsOfBatch, SizeMarks, symbols_acknowledged, batch_behind, batch_begins, complete, to_assign}
+use Rattle.lard_laws.specs.Sizes.{BodyIsOfBatch, IsOfBatch, SizeMarks, TakeOver, batch_behind, batch_begins, complete, symbols_acknowledged, take_over_step, to_assign}
 use Rattle.lard_law_connections.proofs.AwaitsNodes.{HasServed, settled-served}
 use Rattle.lard_law_connections.proofs.PlacesHeads.{kinds-same}
-use Rattle.lard_laws.proofs.SizesReading.{AskSo, Fits, Reach, goes-fit}
+use Rattle.lard_laws.proofs.SizesReading.{AskSo, Fits, HasGoodBehind, Reach, goes-fit}
 use Rattle.lard_laws.proofs.SizesTelling.{Acknowledges, IsQuiet, SameRecv, goes-wider, settled-held, settled-recv, settled-told, wider-quiet}
 use Rattle.lard_laws.specs.Ways.{good_paths}
 use Rattle.lard_laws.proofs.WaysGoods.{good-append}
@@ -27,14 +28,22 @@ use Rattle.lard_law_view.proofs.EndpointSends.{AllTo}
 
 -- ---- what a turn leaves
 
--- where the endpoint is here, its client was told all that came
-abbrev pub StageTold : Option Said → BackConn → Type 0
-StageTold o (back.Here b) = IsTold o b
-StageTold o _ = Unit {0}
+-- one of the requests that were read since a node took the connection is for a file
+abbrev pub StayLeft : FilesAt → SizeMarks → Option Stay → Type 0
+StayLeft files m None = Unit {0}
+StayLeft files m (Some s) = HasGoodBehind files m.taken (take (s.served + length s.batch) (verdicts m.wrote))
 
-abbrev pub RowTold : Option Said → Option BackRow → Type 0
-RowTold o None = Unit {0}
-RowTold o (Some row) = StageTold o row.stage
+-- where the endpoint is here, its client was told all that came, and so it is of its stay
+abbrev pub StageLeft : FilesAt → SizeMarks → Option Stay → BackConn → Type 0
+StageLeft files m o (back.Here b) = IsTold m.told b × StayLeft files m o
+StageLeft files m o _ = Unit {0}
+
+abbrev pub RowLeft : FilesAt → SizeMarks → Option Stay → Option BackRow → Type 0
+RowLeft files m o None = Unit {0}
+RowLeft files m o (Some row) = StageLeft files m o row.stage
+
+abbrev pub PartLeft : FilesAt → SizeMarks → NodePart → Type 0
+PartLeft files m p = RowLeft files m p.stay p.row
 
 -- ---- how many requests were read
 
@@ -91,16 +100,26 @@ module _ (files : FilesAt) (c : ℕ) (x : Conn) (n : ℕ) (u : ℕ) (past : Size
   abbrev pub SaysFit : SizeMarks → Place × List ℕ → Type 0
   SaysFit now s = Was x (Node n) s.0 s.1 ⊎ ((m : Message) → decoded_message s.1 ≡ Ok m → BodyIsOfBatch files u now m.body)
 
-  -- what is told behind so many responses and these segments
-  abbrev pub now_told : ℕ → List (Place × List ℕ) → SizeMarks
-  now_told served segments = record { numbers = past.numbers; wrote = past.wrote; served = served; told = heard_by c past.told segments }
+  -- behind how many responses a node took it
+  abbrev pub past_take_over : TakeOver
+  past_take_over = record { served = past.served; taken = past.taken }
+
+  -- what is told behind these notes and segments
+  abbrev pub now_told : List Rec → List (Place × List ℕ) → SizeMarks
+  now_told notes segments = record {
+    numbers = past.numbers;
+    wrote = past.wrote;
+    served = past.served + served_in notes;
+    taken = (fold (take_over_step c) past_take_over notes).taken;
+    told = heard_by c past.told segments;
+  }
 
   pub record TurnFits (given : NodePart × NodeTurn) : Type 0 where
     pub each : Each (IsNoteOf c) given.1.notes
     pub to : AllTo (Client c) given.1.segments
-    pub row : RowTold (heard_by c past.told given.1.segments) given.0.row
+    pub left : PartLeft files (now_told given.1.notes given.1.segments) given.0
     pub reach : PartReach u past.wrote given.0
-    pub says : Each (SaysFit (now_told (past.served + served_in given.1.notes) given.1.segments)) given.1.messages
+    pub says : Each (SaysFit (now_told given.1.notes given.1.segments)) given.1.messages
 
   abbrev pub DeedFits : NodeDeed → Type 0
   DeedFits Drops = Unit {0}
@@ -183,7 +202,15 @@ batch-some : (files : FilesAt) (es : List Entry) → named_paths files es ≢ []
 batch-some files [] h = absurd (h refl)
 batch-some files (e ∷ es) h = omega arith
 
-module _ (env : NodeEnv) (x : Conn) (n u : ℕ) (past : SizeMarks) (w out : Stream) (vs : List Verdict) (talk : IsTalk env w out vs) (num : Numbers) (numbers : past.numbers ≡ Some num) (isn : num.isn ≡ w.first) (wrote : past.wrote ≡ w.bytes)
+-- what is kept of a stay, where its client was told all that came
+pub part-left : (files : FilesAt) (now : SizeMarks) (env : NodeEnv) (part : NodePart) (k : Work) (e : Ending) → ((b : ControlBlock) (count : ℕ) → e ≡ ending.Here b count → IsHeld now.told b) → HasServed k.service.count e
+    → HasGoodBehind files now.taken (take (k.service.count + length k.batch) (verdicts now.wrote)) → PartLeft files now (kept_after env part k e)
+part-left files now env part k (ending.Here b count) held served good =
+    ((held b count refl).told_is, subst (λ (i : ℕ). HasGoodBehind files now.taken (take (i + length k.batch) (verdicts now.wrote))) (sym served) good)
+part-left files now env part k (ending.Over last) held served good = tt
+
+-- where u requests were read before the turn, and t were answered before the node took the connection
+module _ (env : NodeEnv) (x : Conn) (n u t : ℕ) (past : SizeMarks) (w out : Stream) (vs : List Verdict) (talk : IsTalk env w out vs) (num : Numbers) (numbers : past.numbers ≡ Some num) (isn : num.isn ≡ w.first) (wrote : past.wrote ≡ w.bytes)
     (counted : past.served ≡ length vs) where
   abbrev files : FilesAt
   files = env.serve.files
@@ -205,12 +232,16 @@ module _ (env : NodeEnv) (x : Conn) (n u : ℕ) (past : SizeMarks) (w out : Stre
   ended-says now over (ending.Here b count) = tt
   ended-says now over (ending.Over last) = (other-says files x n u past now c env.epoch Front (body.Ended last.reason last.snd.0 last.rcv.0 (node.reset_count over)) (λ e. let no : kind.Ended ≡ kind.Ask = e in absurd cc), tt)
 
-  module _ (k : Work) (works : Works env w out vs k) (fits : Fits env w out vs u k) (quiet : IsQuiet past.told k.service.block) where
+  -- behind these notes, too
+  abbrev pub IsTakenBehind : List Rec → Type 0
+  IsTakenBehind notes = (fold (take_over_step c) (past_take_over files c x n u past) notes).taken ≡ t
+
+  module _ (k : Work) (works : Works env w out vs k) (fits : Fits env w out vs u t k) (quiet : IsQuiet past.told k.service.block) (took : IsTakenBehind k.service.notes) where
     -- an Ask is of its batch
-    asked-says : (now : SizeMarks) → now.numbers ≡ past.numbers → now.wrote ≡ past.wrote → now.served ≡ k.service.count → (k.service.block.reset ≡ false → Acknowledges now.told (rcv_nxt k.service.block))
-        → (o : Option Asked) → AskSo env w out vs u k o → Each (Say now) (asked_sent env o)
-    asked-says now same_numbers same_wrote served told None h = tt
-    asked-says now same_numbers same_wrote served told (Some a) h =
+    asked-says : (now : SizeMarks) → now.numbers ≡ past.numbers → now.wrote ≡ past.wrote → now.served ≡ k.service.count → now.taken ≡ t → (k.service.block.reset ≡ false → Acknowledges now.told (rcv_nxt k.service.block))
+        → (o : Option Asked) → AskSo env w out vs u t k o → Each (Say now) (asked_sent env o)
+    asked-says now same_numbers same_wrote served since told None h = tt
+    asked-says now same_numbers same_wrote served since told (Some a) h =
         let got : ℕ = k.service.block.recv.got in
         let all : complete now ≡ verdicts (take got w.bytes) =
         complete-is w k.service.block.recv talk.stream works.between.hears now num (same_numbers ∙ numbers) isn (same_wrote ∙ wrote) (told h.calm) in
@@ -227,18 +258,14 @@ module _ (env : NodeEnv) (x : Conn) (n u : ℕ) (past : SizeMarks) (w out : Stre
           answered = omega (arith, behind, answered);
           goes_on = subst (λ (i : ℕ). now.served < i + a.size) at goes;
           size_is = size ∙ (λ i. length (batch_behind (at i) (sym all i)));
-          paths_are = h.paths_are ∙ (λ i. to_assign (good_paths files (take (at i) (sym all i))) (good_paths files (batch_behind (at i) (sym all i))));
+          paths_are = h.paths_are ∙ (λ i. to_assign (good_paths files (drop (sym since i) (take (at i) (sym all i)))) (good_paths files (batch_behind (at i) (sym all i))));
         } in
-        let short : AreShort a.paths = subst AreShort (sym h.paths_are) (short-assign (good_paths files (take h.before (verdicts (take got w.bytes)))) (good_paths files (batch_behind h.before (verdicts (take got w.bytes)))) (batch-short files (take got w.bytes) h.before)) in (
+        let short : AreShort a.paths = subst AreShort (sym h.paths_are) (short-assign (good_paths files (drop t (take h.before (verdicts (take got w.bytes))))) (good_paths files (batch_behind h.before (verdicts (take got w.bytes)))) (batch-short files (take got w.bytes) h.before)) in (
           inr (λ m d.
               let read : ReadsAsk a.number a.size a.paths m.body = ask-reads c env.epoch a.number a.queue a.size a.paths short m d in
               subst (BodyIsOfBatch files u now) (sym read.is) it),
           tt,
         )
-
-    row-told : (o : Option Said) (part : NodePart) (e : Ending) → ((b : ControlBlock) (count : ℕ) → e ≡ ending.Here b count → IsHeld o b) → RowTold o (kept_after env part k e).row
-    row-told o part (ending.Here b count) held = (held b count refl).told_is
-    row-told o part (ending.Over last) held = tt
 
     row-reach : (part : NodePart) (e : Ending) → HasServed k.service.count e → SameRecv k.service.block e → PartReach u past.wrote (kept_after env part k e)
     row-reach part (ending.Here b count) served recv =
@@ -253,24 +280,27 @@ module _ (env : NodeEnv) (x : Conn) (n u : ℕ) (past : SizeMarks) (w out : Stre
         let given : Ending × Turn = serving_settled env.serve s in
         let held : EndsHeld c past.told s.notes given = settled-held env.serve past.told w works.out_now s works.between quiet in
         let segments : List (Place × List ℕ) = given.1.segments in
-        let now : SizeMarks = now_told files c x n u past (past.served + served_in given.1.notes) segments in
+        let now : SizeMarks = now_told files c x n u past given.1.notes segments in
         let served : now.served ≡ s.count =
         (let a = works.counted in let b = works.noted.served in let d : served_in given.1.notes ≡ served_in s.notes = ap served_in held.noted in omega (arith, a, b, d, counted)) in
+        let since : now.taken ≡ t = ap (λ (rs : List Rec). (fold (take_over_step c) (past_take_over files c x n u past) rs).taken) held.noted ∙ took in
+        let good : HasGoodBehind files now.taken (take (s.count + length k.batch) (verdicts now.wrote)) =
+        subst (λ (m : ℕ × List ℕ). HasGoodBehind files m.0 (take (s.count + length k.batch) (verdicts m.1))) (λ i. (sym since i, sym wrote i)) fits.good in
         record {
           each = subst (Each (IsNoteOf c)) (sym held.noted) works.noted.each;
           to = held.to;
-          row = row-told (heard_by c past.told segments) part given.0 held.held;
+          left = part-left files now env part k given.0 held.held (settled-served env.serve s) good;
           reach = row-reach part given.0 (settled-served env.serve s) (settled-recv env.serve past.told w works.out_now s works.between quiet);
           says = Each-append (Say now) (before ++ asked_sent env k.asked ++ wants_sent env k.wants) (ended_sent env s.over given.0)
               (Each-append (Say now) (before ++ asked_sent env k.asked) (wants_sent env k.wants)
               (Each-append (Say now) before (asked_sent env k.asked) (first now)
-              (asked-says now refl refl served (λ calm. settled-told env.serve past.told w works.out_now s works.between quiet calm) k.asked fits.asked))
+              (asked-says now refl refl served since (λ calm. settled-told env.serve past.told w works.out_now s works.between quiet calm) k.asked fits.asked))
               (wants-say now k.wants))
               (ended-says now s.over given.0);
         }
 
   -- the stay goes on
-  pub goes-on-fits : (part : NodePart) (before : List (Place × List ℕ)) → ((now : SizeMarks) → Each (Say now) before) → (k : Work) → Works env w out vs k → Right env w out vs k → Fits env w out vs u k → IsQuiet past.told k.service.block → (after : Works env w out vs (goes_on env k))
-      → Fit (with_work env part before (goes_on env k))
-  goes-on-fits part before first k works right fits quiet after =
-      work-fits (goes_on env k) after (goes-fit env w out vs u talk.most k works right fits) (wider-quiet past.told k.service.block (goes_on env k).service.block (goes-wider env k) quiet) part before first
+  pub goes-on-fits : (part : NodePart) (before : List (Place × List ℕ)) → ((now : SizeMarks) → Each (Say now) before) → (k : Work) → Works env w out vs k → Right env w out vs k → Fits env w out vs u t k → IsQuiet past.told k.service.block → (after : Works env w out vs (goes_on env k))
+      → IsTakenBehind (goes_on env k).service.notes → Fit (with_work env part before (goes_on env k))
+  goes-on-fits part before first k works right fits quiet after took =
+      work-fits (goes_on env k) after (goes-fit env w out vs u t talk.most k works right fits) (wider-quiet past.told k.service.block (goes_on env k).service.block (goes-wider env k) quiet) took part before first

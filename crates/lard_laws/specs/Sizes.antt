@@ -1,7 +1,7 @@
 -- How many requests the batch of an Ask has, and which they are, in words of the journal.
-use Rattle.std.specs.Prelude.{◌≡◌, ℕ, ◌+◌, ◌-◌, ◌*◌, ◌/◌, ◌<◌, ◌≤◌, min, nat_lt, if◌then◌else◌, false, List, [], ◌∷◌, ◌++◌, length, take, drop, Option, Some, None, Ok}
+use Rattle.std.specs.Prelude.{◌≡◌, ℕ, ◌+◌, ◌-◌, ◌*◌, ◌/◌, ◌<◌, ◌≤◌, min, nat_eq, nat_lt, if◌then◌else◌, false, List, [], ◌∷◌, ◌++◌, length, take, drop, Option, Some, None, Ok}
 use Rattle.std.specs.List.{AllByRecursion, fold}
-use Rattle.lard_law_view.specs.Prelude.{Body, Client, Config, EachStep, FilesAt, Front, IsReached, MAX_STREAM_BYTES, Machine, Message, Node, Numbers, Place, Rec, Said, Verdict, decoded_message, file_at, is_opening, is_touched, numbers_of, owner, seq_offset, served, steps, verdicts, wrote}
+use Rattle.lard_law_view.specs.Prelude.{Body, Client, Config, EachStep, FilesAt, Front, IsReached, MAX_STREAM_BYTES, Machine, Message, Node, Numbers, Place, Rec, Said, Verdict, decoded_message, file_at, is_opening, is_touched, numbers_of, owner, seq_offset, served, served_step, steps, verdicts, wrote}
 use Rattle.lard_law_connections.specs.Line.{line_step, nobody}
 use Rattle.lard_law_connections.specs.Offers.{WasSentBetween}
 use Rattle.lard_laws.specs.Ways.{good_paths}
@@ -10,16 +10,47 @@ use Rattle.lard_message.specs.declared.message.Body.TheVariants as body
 
 -- ---- which requests the cluster has
 
--- What is told of a connection: its first numbers, what its client wrote, how many responses were queued, and the last segment that
--- the cluster sent to the client.
+-- How many responses were queued on a connection, and how many of these before a node took it last.
+pub record TakeOver : Type 0 where
+  pub served : ℕ
+  pub taken : ℕ
+
+abbrev pub last_taken : Place → TakeOver → ℕ
+last_taken (Node n) t = t.served
+last_taken Front t = t.taken
+last_taken (Client d) t = t.taken
+
+abbrev pub taken_step : ℕ → TakeOver → Rec → ℕ
+taken_step c t (rec.Took place d epoch) = if nat_eq d c then last_taken place t else t.taken
+taken_step c t _ = t.taken
+
+abbrev pub take_over_step : ℕ → TakeOver → Rec → TakeOver
+take_over_step c t r = record { served = served_step c t.served r; taken = taken_step c t r }
+
+-- before anything
+abbrev pub not_taken : TakeOver
+not_taken = record { served = 0; taken = 0 }
+
+abbrev pub take_over : List Rec → ℕ → TakeOver
+take_over J c = fold (take_over_step c) not_taken J
+
+-- What is told of a connection: its first numbers, what its client wrote, how many responses were queued, how many of these before a
+-- node took it last, and the last segment that the cluster sent to the client.
 pub record SizeMarks : Type 0 where
   pub numbers : Option Numbers
   pub wrote : List ℕ
   pub served : ℕ
+  pub taken : ℕ
   pub told : Option Said
 
 abbrev pub size_marks : List Rec → ℕ → SizeMarks
-size_marks J c = record { numbers = numbers_of J c; wrote = wrote J c; served = served J c; told = (fold line_step nobody J).told c }
+size_marks J c = record {
+  numbers = numbers_of J c;
+  wrote = wrote J c;
+  served = served J c;
+  taken = (take_over J c).taken;
+  told = (fold line_step nobody J).told c;
+}
 
 -- How many symbols of the client's that segment acknowledges: its SYN, its bytes, and its FIN behind them.
 abbrev pub symbols_acknowledged : Option Numbers → Option Said → ℕ
@@ -68,8 +99,8 @@ read_before c upto past (r ∷ rs) = read_before c (if is_opening r then read_at
 abbrev pub requests_read : List Rec → ℕ → ℕ
 requests_read J c = read_at c (read_before c 0 [] J) J
 
--- The paths that are to be assigned, where these were before the batch and those are in it: the connection's first request for a file
--- was assigned with the connection.
+-- The paths that are to be assigned, where these stand between the take-over and the batch, and those in it: the first request for a
+-- file behind the take-over was assigned with the connection.
 abbrev pub to_assign : List (List ℕ) → List (List ℕ) → List (List ℕ)
 to_assign [] paths = drop 1 paths
 to_assign (first ∷ others) paths = paths
@@ -80,7 +111,9 @@ pub record IsOfBatch (files : FilesAt) (upto : ℕ) (now : SizeMarks) (size : �
   pub answered : upto ≤ now.served
   pub goes_on : now.served < batch_begins upto now + size
   pub size_is : size ≡ length (batch_behind (batch_begins upto now) (complete now))
-  pub paths_are : paths ≡ to_assign (good_paths files (take (batch_begins upto now) (complete now))) (good_paths files (batch_behind (batch_begins upto now) (complete now)))
+  pub paths_are : paths
+      ≡ to_assign (good_paths files (drop now.taken (take (batch_begins upto now) (complete now))))
+      (good_paths files (batch_behind (batch_begins upto now) (complete now)))
 
 -- ---- Asks
 

@@ -1,15 +1,15 @@
 -- Journals that break the laws of Asks and Tags, and of the order and the ways of later requests.
-use Rattle.std.specs.Prelude.{ℕ, List, [], ◌∷◌, None, Some, codes}
+use Rattle.std.specs.Prelude.{ℕ, List, [], ◌∷◌, ◌++◌, None, Some, codes}
 use Rattle.lard_base.specs.declared.event.Event.TheVariants as event
-use Rattle.lard_law_view.specs.Prelude.{EachStep, Front, Node, Rec, request, steps}
+use Rattle.lard_law_view.specs.Prelude.{Client, EachStep, Front, Node, Rec, request, steps}
 use Rattle.lard_base.specs.declared.place.Via.TheVariants as via
 use Rattle.lard_laws.specs.AsksAnswers.{MustAnswer, MustEnd}
 use Rattle.lard_laws.specs.AsksSent.{MustAsk}
 use Rattle.lard_laws.specs.Sizes.{MustSize}
 use Rattle.lard_laws.specs.Ways.{AreAssignedInOrder, AssignsAPrefix, ComeAsAssigned, NamesTheNext}
 use Rattle.lard_journal.specs.declared.rec.Rec.TheVariants as rec
-use Rattle.lard_refusals.specs.Packets.{ask_with_a_queue, first_ask, second_ask, tag}
-use Rattle.lard_refusals.specs.Refusals.{Law, gave}
+use Rattle.lard_refusals.specs.Packets.{acknowledges_two_requests, ask_with_a_queue, first_ask, second_ask, tag}
+use Rattle.lard_refusals.specs.Refusals.{Law, gave, took}
 
 -- ---- Asks
 
@@ -76,6 +76,16 @@ sizes config files J = EachStep (MustSize files) [] (steps J)
 -- A node asks for a request, and its client wrote none.
 abbrev pub asks_for_nothing : List Rec
 asks_for_nothing = rec.Event 1 (event.Timer (Node 1) 1) ∷ rec.Sent 1 (Node 1) Front first_ask ∷ []
+
+-- Of two requests node 1 answers the first, and gives the connection up.
+abbrev pub answers_the_first : List Rec
+answers_the_first =
+    rec.Event 1 (event.Timer (Node 1) 1) ∷ rec.Opened 1 1000 5000 65535 1460 ∷ rec.Wrote 1 (request (codes "/a") ++ request (codes "/a")) ∷ took (Node 1) 1 2
+    ∷ rec.Served (Node 1) 1 1 200 40 via.Cache ∷ rec.Sent 1 (Node 1) (Client 1) acknowledges_two_requests ∷ gave (Node 1) 1 2 ∷ []
+
+-- Node 2 takes it then, and asks for the request that was assigned with it.
+abbrev pub asks_for_what_came_with_it : List Rec
+asks_for_what_came_with_it = answers_the_first ++ rec.Event 2 (event.Timer (Node 2) 1) ∷ took (Node 2) 1 4 ∷ rec.Sent 2 (Node 2) Front first_ask ∷ []
 
 -- ---- the order of assignments
 

@@ -24,6 +24,10 @@ acknowledges_three_bytes = 0 ∷ 80 ∷ 156 ∷ 64 ∷ 0 ∷ 0 ∷ 19 ∷ 137 �
 abbrev pub acknowledges_the_request : List ℕ
 acknowledges_the_request = 0 ∷ 80 ∷ 156 ∷ 64 ∷ 0 ∷ 0 ∷ 19 ∷ 137 ∷ 0 ∷ 0 ∷ 4 ∷ 8 ∷ 80 ∷ 16 ∷ 64 ∷ 0 ∷ 167 ∷ 176 ∷ 0 ∷ 0 ∷ []
 
+-- The cluster acknowledges the SYN of the client and two such requests.
+abbrev pub acknowledges_two_requests : List ℕ
+acknowledges_two_requests = 0 ∷ 80 ∷ 156 ∷ 64 ∷ 0 ∷ 0 ∷ 19 ∷ 137 ∷ 0 ∷ 0 ∷ 4 ∷ 39 ∷ 80 ∷ 16 ∷ 64 ∷ 0 ∷ 167 ∷ 145 ∷ 0 ∷ 0 ∷ []
+
 -- The first two bytes of a response, "HT".
 abbrev pub two_bytes : List ℕ
 two_bytes = 0 ∷ 80 ∷ 156 ∷ 64 ∷ 0 ∷ 0 ∷ 19 ∷ 137 ∷ 0 ∷ 0 ∷ 3 ∷ 233 ∷ 80 ∷ 24 ∷ 64 ∷ 0 ∷ 95 ∷ 113 ∷ 0 ∷ 0 ∷ 72 ∷ 84 ∷ []

@@ -31,6 +31,7 @@ pub fn batch_ends_refuses()
 pub fn sizes_refuses()
     ensures law { IsLawOfAll the.sizes }
     ensures asks_for_nothing { Refuses the.sizes the.asks_for_nothing }
+    ensures asks_for_what_came_with_it { Refuses the.sizes the.asks_for_what_came_with_it }
 {}
 
 /// The next request for a file is assigned next.
