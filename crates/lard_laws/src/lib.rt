@@ -210,7 +210,8 @@ pub fn jobs_are_asked()
 /// acknowledged to the client, at most eight, and a node reads the next one once all of the last are answered. So, step by step, it
 /// is told how many requests were read. All that were read before the step of the Ask are answered in it, and its batch stands
 /// behind whole batches of eight that were read and answered in it, and is not answered whole. The size of the Ask is how many
-/// requests the batch has, and its paths are those of its requests for files, in order, but for the connection's first.
+/// requests the batch has, and its paths are those of its requests for files, in order, but for the first since a node took the
+/// connection last: that one was assigned with the connection.
 pub fn batches_have_their_size()
     ensures { BatchesHaveTheirSize }
 {}
