@@ -1,11 +1,12 @@
 -- No more connections are admitted than clients wrote: who is admitted is once, and gets a node for a request.
-use Rattle.std.proofs.Common.{◌≡◌, ◌≤◌, ◌⊎◌, inl, inr, ℕ, ◌+◌, ◌||◌, Bool, true, false, cond, nat_eq, List, [], ◌∷◌, ◌++◌, length, refl, sym, ap, ◌∙◌, subst, append_assoc, append-nil, length-append, arith}
+use Rattle.std.proofs.Common.{◌≡◌, ◌≢◌, ◌≤◌, ◌⊎◌, inl, inr, ℕ, ◌+◌, ◌||◌, Bool, true, false, cond, nat_eq, List, [], ◌∷◌, ◌++◌, length, refl, sym, ap, ◌∙◌, subst, append_assoc, append-nil, length-append, arith}
 use Rattle.std.proofs.lemmas.List.Sums.{fold-append}
 use Rattle.std.specs.List.{fold, list_any}
-use Rattle.lard_law_view.specs.Prelude.{Config, EachMay, Rec, assigned, assigned_step}
+use Rattle.lard_law_view.specs.Prelude.{Config, EachMay, Rec}
 use Rattle.lard_law_connections.specs.PolicyLaws.{ArePaired, AssignmentDue, First, Later, MayAdmit, Nothing}
 use Rattle.lard_counts.specs.Ledger.{Ledger, ledger_admitted, blank_ledger, ledger, ledger_step}
 use Rattle.lard_law_connections.proofs.PolicyIns.{count, count-append, none-left, others, others-left}
+use Rattle.lard_history.proofs.Each.{Each}
 use Rattle.lard_history.proofs.Seeing.{by_number, other_number, same_number}
 use Rattle.lard_journal.specs.declared.rec.Rec.TheVariants as rec
 use Rattle.lard_generate_answers.proofs.Sums.{IsTo, by-number, share, sum-few, sum-same, weigh}
@@ -61,8 +62,13 @@ few-once n xs h once =
       one c (inl to) = inl to
       one c (inr none) = inr (count-weighs c xs ∙ none)
 
+-- it is no first assignment of connection c
+abbrev pub IsNoFirst : ℕ → Rec → Type 0
+IsNoFirst c (rec.AssignedFirst d r path n add remove) = d ≢ c
+IsNoFirst c _ = Unit {0}
+
 module _ (config : Config) (c : ℕ) where
-  -- ---- who is admitted has an assignment
+  -- ---- who is admitted is assigned first
 
   -- what is due counts as one
   abbrev ahead : AssignmentDue → ℕ
@@ -70,38 +76,26 @@ module _ (config : Config) (c : ℕ) where
   ahead (Later d) = 0
   ahead Nothing = 0
 
-  given : (d : ℕ) (path : List ℕ) (n : ℕ) (a : List (List ℕ × ℕ)) → length (cond (nat_eq d c) (a ++ (path, n) ∷ []) a) ≡ length a + cond (nat_eq d c) 1 0
-  given d path n a = go (nat_eq d c) where
-    go : (b : Bool) → length (cond b (a ++ (path, n) ∷ []) a) ≡ length a + cond b 1 0
-    go true = length-append a ((path, n) ∷ [])
-    go false = omega arith
-
-  assigned-within : (due : AssignmentDue) (l : Ledger) (a : List (List ℕ × ℕ)) (rs : List Rec) → ArePaired due rs → count c l.ins ≤ length a + ahead due
-      → count c (fold ledger_step l rs).ins ≤ length (fold (assigned_step c) a rs)
-  assigned-within Nothing l a [] h le = omega (arith, le)
-  assigned-within (First d) l a [] h le = absurd h
-  assigned-within (Later d) l a [] h le = absurd h
-  assigned-within Nothing l a (rec.Admitted d ∷ rs) h le =
+  never-admitted : (due : AssignmentDue) (l : Ledger) (rs : List Rec) → ArePaired due rs → Each (IsNoFirst c) rs → count c l.ins ≤ ahead due → count c (fold ledger_step l rs).ins ≡ 0
+  never-admitted Nothing l [] h never le = omega (arith, le)
+  never-admitted (First d) l [] h never le = absurd h
+  never-admitted (Later d) l [] h never le = absurd h
+  never-admitted Nothing l (rec.Admitted d ∷ rs) h never le =
       let more = count-more c d l.ins in
-      assigned-within (First d) (ledger_step l (rec.Admitted d)) a rs h (omega (arith, le, more))
-  assigned-within Nothing l a (rec.BatchOver d ∷ rs) h le = assigned-within (Later d) (ledger_step l (rec.BatchOver d)) a rs h le
-  assigned-within Nothing l a (rec.AssignedFirst d r path n add remove ∷ rs) h le = absurd h
-  assigned-within Nothing l a (rec.AssignedLater d r path n add size queue ∷ rs) h le =
-      let more = given d path n a in
-      assigned-within Nothing (ledger_step l (rec.AssignedLater d r path n add size queue)) (assigned_step c a (rec.AssignedLater d r path n add size queue)) rs h (omega (arith, le, more))
-  assigned-within Nothing l a (rec.Released d ∷ rs) h le =
+      never-admitted (First d) (ledger_step l (rec.Admitted d)) rs h never.1 (omega (arith, le, more))
+  never-admitted Nothing l (rec.BatchOver d ∷ rs) h never le = never-admitted (Later d) (ledger_step l (rec.BatchOver d)) rs h never.1 le
+  never-admitted Nothing l (rec.AssignedFirst d r path n add remove ∷ rs) h never le = absurd h
+  never-admitted Nothing l (rec.Released d ∷ rs) h never le =
       let less = count-less c d l.ins in
-      assigned-within Nothing (ledger_step l (rec.Released d)) a rs h (omega (arith, le, less))
-  assigned-within Nothing l a (r ∷ rs) h le = assigned-within Nothing (ledger_step l r) a rs h le
-  assigned-within (First e) l a (rec.AssignedFirst d r path n add remove ∷ rs) h le =
-      let more = given d path n a in
-      let same : ◌≡◌ {A = ℕ} (cond (nat_eq d c) 1 0) (cond (nat_eq e c) 1 0) = ap (λ i. cond (nat_eq i c) 1 0) h.0 in
-      assigned-within Nothing (ledger_step l (rec.AssignedFirst d r path n add remove)) (assigned_step c a (rec.AssignedFirst d r path n add remove)) rs h.1 (omega (arith, le, more, same))
-  assigned-within (First e) l a (_ ∷ rs) h le = absurd h
-  assigned-within (Later e) l a (rec.AssignedLater d r path n add size queue ∷ rs) h le =
-      let more = given d path n a in
-      assigned-within Nothing (ledger_step l (rec.AssignedLater d r path n add size queue)) (assigned_step c a (rec.AssignedLater d r path n add size queue)) rs h.1 (omega (arith, le, more))
-  assigned-within (Later e) l a (_ ∷ rs) h le = absurd h
+      never-admitted Nothing (ledger_step l (rec.Released d)) rs h never.1 (omega (arith, le, less))
+  never-admitted Nothing l (r ∷ rs) h never le = never-admitted Nothing (ledger_step l r) rs h never.1 le
+  never-admitted (First e) l (rec.AssignedFirst d r path n add remove ∷ rs) h never le =
+      let none : ◌≡◌ {A = ℕ} (cond (nat_eq e c) 1 0) 0 = ap (λ b. cond b 1 0) (other_number e c (λ same. never.0 (h.0 ∙ same))) in
+      never-admitted Nothing (ledger_step l (rec.AssignedFirst d r path n add remove)) rs h.1 never.1 (omega (arith, le, none))
+  never-admitted (First e) l (_ ∷ rs) h never le = absurd h
+  never-admitted (Later e) l (rec.AssignedLater d r path n add size queue ∷ rs) h never le =
+      never-admitted Nothing (ledger_step l (rec.AssignedLater d r path n add size queue)) rs h.1 never.1 le
+  never-admitted (Later e) l (_ ∷ rs) h never le = absurd h
 
   -- ---- and is once
 
@@ -124,10 +118,10 @@ module _ (config : Config) (c : ℕ) where
       (once-all (past ++ r ∷ []) rs each.1
       (subst (λ (l : Ledger). count c l.ins ≤ 1) (sym (fold-append ledger_step (blank_ledger config) past (r ∷ []))) (once-more (ledger config past) r each.0 le)))
 
--- In a journal that keeps the laws of admission, where requests of connections 1 to n alone were assigned, at most n are admitted.
+-- In a journal that keeps the laws of admission, where connections 1 to n alone were assigned first, at most n are admitted.
 pub admitted-few : (config : Config) (n : ℕ) (J : List Rec) → EachMay (λ (before : List Rec) (r : Rec). MayAdmit config (ledger config before) r) [] J → ArePaired Nothing J
-    → ((c : ℕ) → IsTo n c ⊎ (length (assigned J c) ≡ 0)) → ledger_admitted (ledger config J) ≤ n
+    → ((c : ℕ) → IsTo n c ⊎ Each (IsNoFirst c) J) → ledger_admitted (ledger config J) ≤ n
 admitted-few config n J admits paired h = few-once n (ledger config J).ins (λ c. one c (h c)) (λ c. once-all config c [] J admits (omega arith)) where
-  one : (c : ℕ) → IsTo n c ⊎ (length (assigned J c) ≡ 0) → IsTo n c ⊎ (count c (ledger config J).ins ≡ 0)
+  one : (c : ℕ) → IsTo n c ⊎ Each (IsNoFirst c) J → IsTo n c ⊎ (count c (ledger config J).ins ≡ 0)
   one c (inl to) = inl to
-  one c (inr none) = inr (let few = assigned-within config c Nothing (blank_ledger config) [] J paired (omega arith) in omega (arith, few, none))
+  one c (inr never) = inr (never-admitted config c Nothing (blank_ledger config) J paired never (omega arith))

@@ -1,23 +1,25 @@
 -- A journal whose settle left nothing counts all answers, where only clients 1 to n wrote and none of them is in the line, reset or touched.
-use Rattle.std.proofs.Common.{◌≡◌, ◌≤◌, ◌<◌, ◌⊎◌, inl, inr, ℕ, Bool, true, false, List, [], ◌∷◌, ◌++◌, length, map, refl, sym, ap, ◌∙◌, subst, append-nil, length-append, ⊎_elim, arith}
+use Rattle.std.proofs.Common.{◌≡◌, ◌≤◌, ◌<◌, ◌⊎◌, inl, inr, ℕ, Bool, true, false, List, [], ◌∷◌, ◌++◌, length, Some, None, refl, sym, ap, ◌∙◌, subst, append-nil, append_assoc, length-append, ⊎_elim, arith}
 use Rattle.std.proofs.lemmas.Bool.Decides.{nat_tests}
-use Rattle.std.proofs.lemmas.List.{length-map}
+use Rattle.std.proofs.lemmas.List.{nil_from_length}
 use Rattle.std.proofs.lemmas.List.Sums.{fold-append}
-use Rattle.std.specs.List.{concat, fold}
+use Rattle.std.specs.List.{concat, fold, slice_get}
 use Rattle.std.specs.Prelude.{nat_le}
-use Rattle.lard_law_view.specs.Prelude.{Config, EachMay, Event, FilesAt, IsComplete, IsPrefix, Rec, aborted_step, accepted, accepted_step, answer_bytes, answers, assigned, goods, goods_from, has_aborted, is_touched, reset_step, room_of, served, served_step, touched_step, was_reset, wrote, wrote_step}
+use Rattle.lard_law_view.specs.Prelude.{Config, EachMay, Event, FilesAt, IsComplete, IsPrefix, Rec, aborted_step, accepted, accepted_step, answer_bytes, answers, assigned, has_aborted, is_touched, reset_step, room_of, served, served_step, touched_step, verdicts, was_reset, wrote, wrote_step}
 use Rattle.lard_answers.proofs.Growing.{answers-nothing, verdicts-nothing}
 use Rattle.lard_bound.specs.Bound.{openers, opener_step}
-use Rattle.lard_laws.proofs.BackingMarks.{each-at}
+use Rattle.lard_laws.proofs.BackingMarks.{each-at, untouched-before, writes-on}
 use Rattle.lard_laws.specs.Lawful.{IsLawful}
+use Rattle.lard_laws.specs.Ways.{IsNextGood, MayBeAssigned, good_paths, way_marks}
 use Rattle.lard_counts.specs.Ledger.{Ledger, ledger_admitted, blank_ledger, ledger, ledger_step}
 use Rattle.lard_laws.specs.Quiet.{IsInLine}
 use Rattle.lard_generate_bound.specs.Shares.{numbers_to}
+use Rattle.lard_history.proofs.Each.{Each}
 use Rattle.lard_journal.specs.declared.rec.Rec.TheVariants as rec
 use Rattle.lard_law_settles.specs.Done.{IsDoneWith, MaySettle}
 use Rattle.lard_law_settles.specs.DoneSame.{TellsTheSame}
 use Rattle.lard_generate_answers.specs.Counted.{CountsAllAnswers, writes}
-use Rattle.lard_generate_answers.proofs.Admitting.{admitted-few}
+use Rattle.lard_generate_answers.proofs.Admitting.{IsNoFirst, admitted-few}
 use Rattle.lard_generate_answers.proofs.Counting.{bytes-together, requests-together}
 use Rattle.lard_generate_answers.proofs.Serving.{Fits, answers-fit}
 use Rattle.lard_generate_answers.proofs.Starting.{opened}
@@ -35,10 +37,6 @@ to-or-not n c = go (nat_le 1 c) (nat_le c n) refl refl where
 
 size-nothing : (files : FilesAt) → length (answer_bytes files []) ≡ 0
 size-nothing files = ap (λ (all : List (List ℕ)). length (concat all)) (answers-nothing files)
-
-goods-nothing : (files : FilesAt) → goods files [] ≡ []
-unfolding goods
-goods-nothing files = ap (goods_from files 1) verdicts-nothing
 
 -- a front of nothing is nothing
 front-nothing : {A : Type 0} (xs ys : List A) → IsPrefix xs ys → length ys ≡ 0 → length xs ≡ 0
@@ -87,19 +85,33 @@ module _ (config : Config) (files : FilesAt) (n : ℕ) (J K : List Rec) (theirs 
       ap (λ (q : List ℕ). length q) (sym (same.clients.taken c))
       ∙ front-nothing (accepted K c) (answer_bytes files (wrote K c)) (laws.prefix K [] c (sym (append-nil K)) (untouched-too c)) (ap (λ (q : List ℕ). length (answer_bytes files q)) (unwritten c none) ∙ size-nothing files)
 
-  assigned-none : (c : ℕ) → (IsTo n c → ⊥) → length (assigned K c) ≡ 0
-  assigned-none c none =
-      let paths = front-nothing (map (λ (a : List ℕ × ℕ). a.0) (assigned K c)) (map (λ (g : ℕ × List ℕ). g.1) (goods files (wrote K c))) (laws.paths K [] c (sym (append-nil K)) (untouched-too c))
-      (length-map (goods files (wrote K c)) (λ g. g.1) ∙ ap (λ (l : List (ℕ × List ℕ)). length l) (ap (goods files) (unwritten c none) ∙ goods-nothing files)) in
-      sym (length-map (assigned K c) (λ a. a.0)) ∙ paths
+  -- nothing is the next request of who writes nothing
+  no-first : (c : ℕ) → (IsTo n c → ⊥) → (past later : List Rec) (r : Rec) → K ≡ past ++ r ∷ later → MayBeAssigned files past r → IsNoFirst c r
+  no-first c none past later (rec.AssignedFirst d i path home add remove) is may = λ same.
+      let step : Rec = rec.AssignedFirst d i path home add remove in
+      let next : is_touched past c ≡ false → IsNextGood files (way_marks past c) path = subst (λ (q : ℕ). is_touched past q ≡ false → IsNextGood files (way_marks past q) path) same may in
+      let calm : is_touched past c ≡ false = untouched-before past (step ∷ later) c (subst (λ (J : List Rec). is_touched J c ≡ false) is (untouched-too c)) in
+      let on = writes-on past (step ∷ later) c in
+      let all : wrote past c ++ on.0 ≡ [] = sym on.1 ∙ ap (λ (J : List Rec). wrote J c) (sym is) ∙ unwritten c none in
+      let wrote_none : wrote past c ≡ [] = nil_from_length (wrote past c) (omega (arith, length-append (wrote past c) on.0, ap (λ (l : List ℕ). length l) all)) in
+      let wanted : good_paths files (verdicts (wrote past c)) ≡ [] = ap (good_paths files) (ap verdicts wrote_none ∙ verdicts-nothing) in
+      let no : None ≡ Some path = sym (ap (λ (ps : List (List ℕ)). slice_get ps (length (assigned past c))) wanted) ∙ next calm in
+      cc
+  no-first c none past later _ is may = tt
+
+  never-first : (c : ℕ) → (IsTo n c → ⊥) → Each (IsNoFirst c) K
+  never-first c none = go [] K refl laws.requests where
+    go : (past rs : List Rec) → K ≡ past ++ rs → EachMay (MayBeAssigned files) past rs → Each (IsNoFirst c) rs
+    go past [] is each = tt
+    go past (r ∷ rs) is each = (no-first c none past rs r is each.0, go (past ++ r ∷ []) rs (is ∙ sym (append_assoc past (r ∷ []) rs)) each.1)
 
   -- ---- the line
 
   few : ledger_admitted (ledger config J) ≤ n
   few = subst (λ (l : Ledger). ledger_admitted l ≤ n) same.counted (admitted-few config n K laws.admission laws.nodes (λ c. one c (to-or-not n c))) where
-    one : (c : ℕ) → IsTo n c ⊎ (IsTo n c → ⊥) → IsTo n c ⊎ (length (assigned K c) ≡ 0)
+    one : (c : ℕ) → IsTo n c ⊎ (IsTo n c → ⊥) → IsTo n c ⊎ Each (IsNoFirst c) K
     one c (inl to) = inl to
-    one c (inr none) = inr (assigned-none c none)
+    one c (inr none) = inr (never-first c none)
 
   -- ---- each of them
 

@@ -1,5 +1,5 @@
 -- Where the front end placed a connection, its client asked for something; and where an Offer comes new, the node keeps nothing of it.
-use Rattle.std.proofs.Common.{◌≡◌, ◌≤◌, ℕ, true, false, List, [], ◌∷◌, ◌++◌, map, length, Option, Some, None, ⊎_elim, refl, ap, subst, arith}
+use Rattle.std.proofs.Common.{◌≡◌, ◌≤◌, ℕ, true, false, List, [], ◌∷◌, ◌++◌, map, length, Option, Some, None, ⊎_elim, refl, sym, ap, ◌∙◌, subst, arith, length-append}
 use Rattle.std.specs.List.{slice_get}
 use Rattle.lard_law_view.specs.Prelude.{BackConn, BackRow, Conn, ControlBlock, FilesAt, FrontConn, FrontRest, FrontRow, HasTarget, IsPrefix, NodePart, Station, Talk, Verdict, front_rest, is_gone, offer_answer, tale_at, verdicts}
 use Rattle.lard_bound.specs.Units.{Whole, whole_of}
@@ -7,7 +7,7 @@ use Rattle.lard_laws.proofs.BackingNext.{next-for}
 use Rattle.lard_law_connections.specs.BytesAgreement.{IsOpen, SeatAgrees, StageAgrees}
 use Rattle.lard_law_connections.specs.Kept.{FrontKeeps, FrontRowKeeps, FrontStageKeeps, NodeKeepsMessages, NodeRowKeeps, NodeStageKeeps}
 use Rattle.lard_law_connections.specs.Places.{IsDecided, IsPast}
-use Rattle.lard_laws.specs.WaysState.{BeginsWithRequest, GoesItsWay, IsAway, IsPlacedOnce, WaitsForNext, SeatWays, StageWays, StayWays, marks_at}
+use Rattle.lard_laws.specs.WaysState.{BeginsWithRequest, GoesItsWay, IsAtHome, IsAway, IsPlacedOnce, WaitsForNext, SeatWays, StageWays, marks_at}
 use Rattle.lard_laws.specs.WaysUnder.{Assigned}
 use Rattle.lard_laws.specs.Ways.{good_paths, paths_wanted}
 use Rattle.lard_handoff_back.specs.declared.row.BackConn.TheVariants as back
@@ -38,10 +38,11 @@ module _ (files : FilesAt) (x : Conn) (st : Station) (k : Talk) (pend : List Ver
   requests-are : w.requests ≡ length (verdicts k.w.bytes)
   requests-are = ap (λ (w : Whole). w.requests) is
 
-  was-assigned : (path : List ℕ) (home : ℕ) (others : List Assigned) → (marks_at x).assigned ≡ (path, home) ∷ others → 1 ≤ w.requests
-  was-assigned path home others e =
-      let p : IsPrefix (path ∷ map (λ (a : Assigned). a.0) others) (paths_wanted files (marks_at x)) = subst (λ (chosen : List Assigned). IsPrefix (map (λ (a : Assigned). a.0) chosen) (paths_wanted files (marks_at x))) e way.paths in
-      let some = some-wanted files path (map (λ (a : Assigned). a.0) others) (verdicts (tale_at x).wrote) p in
+  was-assigned : (chosen : List Assigned) → (marks_at x).assigned ≡ chosen → (chosen ≡ [] → ⊥) → 1 ≤ w.requests
+  was-assigned [] e none = absurd (none refl)
+  was-assigned (a ∷ others) e none =
+      let p : IsPrefix (a.0 ∷ map (λ (b : Assigned). b.0) others) (paths_wanted files (marks_at x)) = subst (λ (chosen : List Assigned). IsPrefix (map (λ (b : Assigned). b.0) chosen) (paths_wanted files (marks_at x))) e way.paths in
+      let some = some-wanted files a.0 (map (λ (b : Assigned). b.0) others) (verdicts (tale_at x).wrote) p in
       let same : length (verdicts (tale_at x).wrote) ≡ length (verdicts k.w.bytes) = ap (λ (bytes : List ℕ). length (verdicts bytes)) o.tale.wrote in
       let r = requests-are in
       omega (arith, some, same, r)
@@ -57,11 +58,11 @@ module _ (files : FilesAt) (x : Conn) (st : Station) (k : Talk) (pend : List Ver
     kept = subst (FrontStageKeeps x.c x.part.front) eq (subst (FrontRowKeeps x.c x.part.front) at keeps)
 
   away-asks : (home e : ℕ) → IsAway files (marks_at x) (front_rest x.part.front.rest) home e (x.part.nodes home) → 1 ≤ w.requests
-  away-asks home e h = ⊎_elim
-      (λ (p : IsPast e (x.part.nodes home).row × IsPlacedOnce files (marks_at x) (front_rest x.part.front.rest) home). was-assigned p.1.path home [] p.1.assigned)
-      (λ (d : IsDecided e (x.part.nodes home).row × ((path : List ℕ) × (others : List Assigned) × ((marks_at x).assigned ≡ (path, home) ∷ others)) × StayWays files home (marks_at x) (front_rest x.part.front.rest) (x.part.nodes home).stay).
-      was-assigned d.1.0 home d.1.1 d.1.2)
-      h
+  away-asks home e h = was-assigned (marks_at x).assigned refl (⊎_elim
+      (λ (p : IsPast e (x.part.nodes home).row × IsPlacedOnce files (marks_at x) (front_rest x.part.front.rest) home).
+      λ none. omega (arith, length-append p.1.before ((p.1.path, home) ∷ []), ap length (sym p.1.assigned ∙ none)))
+      (λ (d : IsDecided e (x.part.nodes home).row × IsAtHome files (marks_at x) (front_rest x.part.front.rest) home (x.part.nodes home).stay). d.1.some)
+      h.1)
 
   waits-asks : (row : FrontRow) → x.part.front.row ≡ Some row → (b : ControlBlock) → row.stage ≡ stage.Waiting b → 1 ≤ w.requests
   waits-asks row at b eq =

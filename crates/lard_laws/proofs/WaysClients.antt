@@ -49,11 +49,11 @@ module _ (files : FilesAt) (m : WayMarks) (z : List ℕ) (same : paths_answered 
 
   away-more : (home e : ℕ) (q : NodePart) → IsAway files m r home e q → IsAway files (more_of m z) r home e q
   away-more home e q h = (
-      h.0,
-      ⊎_elim
-          (λ (a : IsPast e q.row × IsPlacedOnce files m r home).
-          inl (a.0, record { before = a.1.before; path = a.1.path; assigned = a.1.assigned; fresh = a.1.fresh; answered = a.1.answered ∙ sym same; asks = a.1.asks }))
-          (λ (a : IsDecided e q.row × IsAtHome files m r home q.stay). inr (a.0, record { some = a.1.some; fresh = a.1.fresh; stay = stay-more home q.stay a.1.stay })) h.1,
+    h.0,
+    ⊎_elim
+        (λ (a : IsPast e q.row × IsPlacedOnce files m r home).
+        inl (a.0, record { before = a.1.before; path = a.1.path; assigned = a.1.assigned; fresh = a.1.fresh; answered = a.1.answered ∙ sym same; asks = a.1.asks }))
+        (λ (a : IsDecided e q.row × IsAtHome files m r home q.stay). inr (a.0, record { some = a.1.some; fresh = a.1.fresh; stay = stay-more home q.stay a.1.stay })) h.1,
   )
 
   stage-more : (e : ℕ) (d : FrontConn) → StageWays files m p e d → StageWays files (more_of m z) p e d

@@ -212,12 +212,17 @@ module _ (env : FrontEnv) (x : Conn) (heads : List Seen) where
       unfolding now rest_now
       away-now e q decided asks h =
           let has : IsAtHome files m rest n q.stay = decided-home files m rest n e q decided h in
-          let given : List Assigned = given_to ask.paths (map (λ c. c.node) (env.later ask).choices) in
-          (h.0, inr (decided, record {
-            some = λ none. has.some (nil_from_length m.assigned (omega (arith, length-append m.assigned given, ap length none)));
-            fresh = has.fresh;
-            stay = stay-now n q.stay asks has.stay;
-          }))
+          let given : List Assigned = given_to ask.paths (map (λ c. c.node) (env.later ask).choices) in (
+            h.0,
+            inr (
+              decided,
+              record {
+                some = λ none. has.some (nil_from_length m.assigned (omega (arith, length-append m.assigned given, ap length none)));
+                fresh = has.fresh;
+                stay = stay-now n q.stay asks has.stay;
+              },
+            ),
+          )
 
       paths-now : IsPrefix (paths_assigned m ++ ask.paths) (paths_wanted files m) → IsPrefix (paths_assigned now) (paths_wanted files now)
       unfolding now

@@ -115,11 +115,13 @@ module _ (env : FrontEnv) (x : Conn) where
         makes files x v help g n
         (rightly-append files m s.notes more h.looks.noted_so (tt, (next, tt)))
         (marked-append m s.notes more ∙ ap (λ (q : WayMarks). record q { assigned = q.assigned ++ (path, choice.node) ∷ []; fresh = true; home = Some choice.node }) h.looks.told)
-        (w.0, paths)
-        (refl, inl (
-          past-later row.epoch.0 (row.epoch.0 + 1) (x.part.nodes choice.node).row (omega arith) (past choice.node),
-          record { before = m.assigned; path = path; assigned = refl; fresh = refl; answered = h.looks.answered.0; asks = refl },
-        ))
+        (w.0, paths) (
+          refl,
+          inl (
+            past-later row.epoch.0 (row.epoch.0 + 1) (x.part.nodes choice.node).row (omega arith) (past choice.node),
+            record { before = m.assigned; path = path; assigned = refl; fresh = refl; answered = h.looks.answered.0; asks = refl },
+          ),
+        )
         (record {
           grows = help.owes.grows;
           ask = λ i f number ps at decided was. let is : f ≡ row.epoch.0 + 1 = counts-epoch i f at in absurd (undecided i f (omega (arith, is)) decided);

@@ -96,6 +96,23 @@ requests config files J = AreAssignedInOrder files J
 abbrev pub assigned_before_it_is_written : List Rec
 assigned_before_it_is_written = rec.AssignedFirst 1 1 (codes "/a") 1 (Some 1) None ∷ []
 
+-- Its request is assigned a second time.
+abbrev pub assigned_twice : List Rec
+assigned_twice =
+    rec.Wrote 1 (request (codes "/a")) ∷ rec.AssignedFirst 1 1 (codes "/a") 1 (Some 1) None ∷ rec.AssignedFirst 1 1 (codes "/a") 2 (Some 2) None ∷ []
+
+-- The first node did not take the connection, and the front end has it again: so that assignment is void.
+abbrev pub assigned_again : List Rec
+assigned_again =
+    rec.Wrote 1 (request (codes "/a")) ∷ rec.AssignedFirst 1 1 (codes "/a") 1 (Some 1) None ∷ took Front 1 3
+    ∷ rec.AssignedFirst 1 1 (codes "/a") 2 (Some 2) None ∷ []
+
+-- The first node took it, and the front end has it again: that assignment counts.
+abbrev pub assigned_again_behind_a_stay : List Rec
+assigned_again_behind_a_stay =
+    rec.Wrote 1 (request (codes "/a")) ∷ rec.AssignedFirst 1 1 (codes "/a") 1 (Some 1) None ∷ took (Node 1) 1 2 ∷ took Front 1 3
+    ∷ rec.AssignedFirst 1 1 (codes "/a") 2 (Some 2) None ∷ []
+
 -- Another file is assigned than the client asked for.
 abbrev pub another_path_assigned : List Rec
 another_path_assigned = rec.Wrote 1 (request (codes "/a")) ∷ rec.AssignedFirst 1 1 (codes "/b") 1 (Some 1) None ∷ []
@@ -141,3 +158,11 @@ served_by_another_node =
 abbrev pub served_by_its_node : List Rec
 served_by_its_node =
     rec.Wrote 1 (request (codes "/a")) ∷ rec.AssignedFirst 1 1 (codes "/a") 2 (Some 2) None ∷ rec.Served (Node 2) 1 1 200 40 via.Cache ∷ []
+
+-- A request was assigned to node 1, then to node 2, and node 1 answers it.
+abbrev pub served_by_the_node_before : List Rec
+served_by_the_node_before = assigned_again ++ rec.Served (Node 1) 1 1 200 40 via.Cache ∷ []
+
+-- Node 2 does.
+abbrev pub served_by_the_node_after : List Rec
+served_by_the_node_after = assigned_again ++ rec.Served (Node 2) 1 1 200 40 via.Cache ∷ []

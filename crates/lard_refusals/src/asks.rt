@@ -40,6 +40,9 @@ pub fn requests_refuses()
     ensures assigned_before_it_is_written { Refuses the.requests the.assigned_before_it_is_written }
     ensures another_path_assigned { Refuses the.requests the.another_path_assigned }
     ensures its_path_assigned { Allows the.requests the.its_path_assigned }
+    ensures assigned_twice { Refuses the.requests the.assigned_twice }
+    ensures assigned_again_behind_a_stay { Refuses the.requests the.assigned_again_behind_a_stay }
+    ensures assigned_again { Allows the.requests the.assigned_again }
 {}
 
 /// At each moment the paths that were assigned are the first of those that were asked for.
@@ -65,4 +68,6 @@ pub fn ways_refuses()
     ensures served_and_not_assigned { Refuses the.ways the.served_and_not_assigned }
     ensures served_by_another_node { Refuses the.ways the.served_by_another_node }
     ensures served_by_its_node { Allows the.ways the.served_by_its_node }
+    ensures served_by_the_node_before { Refuses the.ways the.served_by_the_node_before }
+    ensures served_by_the_node_after { Allows the.ways the.served_by_the_node_after }
 {}

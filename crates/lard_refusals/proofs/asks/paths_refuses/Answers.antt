@@ -1,6 +1,7 @@
 use Rattle.std.proofs.Common.{◌≡◌, ℕ, List, [], ◌∷◌, ◌++◌, refl, sym, ap, ◌∙◌, arith, Bool, true, false, cond, nat_eq, map, None, Some}
 use Rattle.std.specs.Prelude.{codes, slice_index}
 use Rattle.lard_law_view.specs.Prelude.{IsPrefix, Rec, assigned, goods, request, wrote}
+use Rattle.lard_history.specs.Journal.{Assignments}
 use Rattle.lard_journal.specs.declared.rec.Rec.TheVariants as rec
 use Rattle.lard_refusals.specs.Asks.{another_path_assigned, assigned_before_it_is_written}
 use Rattle.lard_refusals.specs.Refusals.{two_files}
@@ -35,7 +36,7 @@ AreFirst past = (c : ℕ) → IsPrefix (map (λ a. a.0) (assigned past c)) (map 
 
 both : AreFirst (asking ∷ assigning ∷ [])
 both c = go (nat_eq 1 c) where
-  go : (b : Bool) → IsPrefix (map (λ a. a.0) (cond {A = List (List ℕ × ℕ)} b ((codes "/a", 1) ∷ []) [])) (map (λ g. g.1) (goods two_files (cond b (request (codes "/a")) [])))
+  go : (b : Bool) → IsPrefix (map (λ a. a.0) (cond {A = Assignments} b (record { list = (codes "/a", 1) ∷ []; fresh = true }) (record { list = []; fresh = false })).list) (map (λ g. g.1) (goods two_files (cond b (request (codes "/a")) [])))
   go true = ([], its-goods)
   go false = (_, refl)
 

@@ -18,3 +18,18 @@ returns-clause-another_path_assigned c h =
 
 pub returns-clause-its_path_assigned : goal.returns-clause-its_path_assigned
 returns-clause-its_path_assigned c = (tt, ((λ untouched. ap (λ (all : List (List ℕ)). slice_get all 0) its-paths), tt))
+
+pub returns-clause-assigned_twice : goal.returns-clause-assigned_twice
+returns-clause-assigned_twice c h =
+    let e : None ≡ Some (codes "/a") = sym (ap (λ (all : List (List ℕ)). slice_get all 1) its-paths) ∙ h.1.1.0 refl in
+    cc
+
+pub returns-clause-assigned_again_behind_a_stay : goal.returns-clause-assigned_again_behind_a_stay
+returns-clause-assigned_again_behind_a_stay c h =
+    let e : None ≡ Some (codes "/a") = sym (ap (λ (all : List (List ℕ)). slice_get all 1) its-paths) ∙ h.1.1.1.1.0 refl in
+    cc
+
+pub returns-clause-assigned_again : goal.returns-clause-assigned_again
+returns-clause-assigned_again c =
+    let first = ap (λ (all : List (List ℕ)). slice_get all 0) its-paths in
+    (tt, ((λ untouched. first), (tt, ((λ untouched. first), tt))))
