@@ -24,8 +24,7 @@ pub record Home (env : NodeEnv) (m : WayMarks) : Type 0 where
   pub place : env.serve.place ≡ Node env.n
   pub home : m.home ≡ Some env.n
 
--- A batch is read where none is left. `m` is what was marked before the turn of its home, `r` what the front end keeps, and `Before` is so
--- of the paths of an Ask that it awaits.
+-- `m` is what was marked before a turn of the home, `r` what the front end keeps, and `Before` is so of the paths of an Ask that it awaits.
 module _ (env : NodeEnv) (m : WayMarks) (r : FrontRest) (Before : List (List ℕ) → Type 0) where
   abbrev files : FilesAt
   files = env.serve.files

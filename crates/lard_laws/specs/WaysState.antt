@@ -108,7 +108,8 @@ TagIs r number nodes = (number ≤ r.asks) × (number ≡ r.asks → nodes ≡ r
 
 -- an Offer has what is to be read first, the last that was assigned
 abbrev pub OfferIs : FilesAt → WayMarks → EndpointParts → Type 0
-OfferIs files m parts = (before : List Assigned) × (path : List ℕ) × (node : ℕ) × (m.assigned ≡ before ++ (path, node) ∷ []) × BeginsWithRequest files parts.unread path
+OfferIs files m parts =
+    (before : List Assigned) × (path : List ℕ) × (node : ℕ) × (m.assigned ≡ before ++ (path, node) ∷ []) × BeginsWithRequest files parts.unread path
 
 -- the front end was in this epoch
 abbrev pub IsBy : ℕ → Option FrontRow → Type 0
