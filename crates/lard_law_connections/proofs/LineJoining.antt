@@ -1,5 +1,5 @@
 -- Who joins the line: a connection that the front end holds, which is not in it and not admitted. By what one connection sees.
-use Rattle.std.proofs.Common.{◌≡◌, ℕ, ◌^◌, ◌≤◌, Bool, true, false, cond, List, [], ◌∷◌, ◌++◌, map, Option, Some, None, refl, sym, ap, ◌∙◌, subst, ⊎_elim, arith}
+use Rattle.std.proofs.Common.{◌≡◌, ℕ, ◌^◌, ◌≤◌, Bool, true, false, cond, List, [], ◌∷◌, ◌++◌, map, Option, Some, None, refl, sym, ap, ◌∙◌, subst, ⊎_elim}
 use Rattle.std.proofs.lemmas.List.Sums.{fold-append}
 use Rattle.std.specs.List.{fold}
 use Rattle.lard_law_view.specs.Prelude.{Came, Client, Conn, EachRow, Front, FrontConn, FrontRow, IsLaw, MayRestOn, Move, Node, Place, Rec, Row, Seen, Setting, Tale, ToCluster, decoded, grown, rows_of, seen_in, seen_step, tale_at, tale_of, tale_step, untold}
@@ -10,7 +10,7 @@ use Rattle.lard_law_connections.proofs.LineNotes.{Alone, Begins, Ends, Enters, G
 use Rattle.lard_law_connections.proofs.LineStands.{Stand, came_stand, stand_at, stand_step, unknown}
 use Rattle.lard_law_connections.proofs.LineTurns.{IsBare, IsEntry, IsNoted, Notes, noting, was_at}
 use Rattle.lard_law_connections.specs.Line.{leaves}
-use Rattle.lard_law_connections.specs.Places.{IsRowEarly, IsStageEarly, Owning, Sits, StageSits, owning}
+use Rattle.lard_law_connections.specs.Places.{IsOdd, Owning, Sits, StageSits, owning}
 use Rattle.lard_law_connections.proofs.PlacesTurns.{IsPlaced}
 use Rattle.lard_law_view.proofs.Fine.{IsFine, IsItsOwn, fine}
 use Rattle.lard_law_view.proofs.Guarded.{both, weaker}
@@ -24,11 +24,12 @@ use Rattle.lard_law_view.proofs.RecordKinds.{IsOuter, IsElsewhere, kind_of}
 
 -- ---- where it may be told to wait
 
--- it is not in the line, not admitted, and the front end's, in its first epoch
+-- it is not in the line, not admitted, and the front end's, in an odd epoch
 pub record IsFree (s : Stand) (w : Owning) : Type 0 where
   pub waits_is : s.waits ≡ false
   pub inside_is : s.inside ≡ false
-  pub owning_is : w ≡ record { owner = Some Front; epoch = 1 }
+  pub owner_is : w.owner ≡ Some Front
+  pub epoch_is : IsOdd w.epoch
 
 -- so it was by what it saw
 abbrev pub WasFree : ℕ → List Seen → Type 0
@@ -50,7 +51,7 @@ still-false true w h = refl
 still-false false w h = h
 
 came-free : (c : ℕ) (s : Stand) (w : Owning) (to from : Place) (bytes : List ℕ) → IsFree s w → IsFree (came_stand c s to from bytes) w
-came-free c s w Front (Client d) bytes h = record { waits_is = still-false (leaves s.told (decoded bytes c ToCluster)) s.waits h.waits_is; inside_is = h.inside_is; owning_is = h.owning_is }
+came-free c s w Front (Client d) bytes h = record { waits_is = still-false (leaves s.told (decoded bytes c ToCluster)) s.waits h.waits_is; inside_is = h.inside_is; owner_is = h.owner_is; epoch_is = h.epoch_is }
 came-free c s w Front Front bytes h = h
 came-free c s w Front (Node n) bytes h = h
 came-free c s w (Node m) from bytes h = h
@@ -126,18 +127,17 @@ later-other rs e = Each-weaker IsLater IsNoWait one rs e where
 -- ---- the notes of a turn
 
 -- One that is held is free.
-held-free : (s : Stand) (w : Owning) (x : Conn) (o : Option FrontRow) → RowStands s o → Sits w x.part.nodes o → IsRowEarly o → held_there o ≡ true → IsFree s w
-held-free s w x None stands sits early held = let no : false ≡ true = held in absurd cc
-held-free s w x (Some row) stands sits early held = go row.stage stands sits.0 early held where
-  go : (at : FrontConn) → StageStands s at → StageSits row.epoch.0 w x.part.nodes at → IsStageEarly row.epoch.0 at → is_held at ≡ true → IsFree s w
-  go (stage.Held b) k sits early held =
-      let first : row.epoch.0 ≡ 1 = omega (arith, sits.0, early) in
-      record { waits_is = k.0.waits_is; inside_is = k.0.inside_is; owning_is = sits.1.0 ∙ ap (λ (e : ℕ). record { owner = Some Front; epoch = e }) first }
-  go (stage.Waiting b) k sits early held = let no : false ≡ true = held in absurd cc
-  go stage.Lent k sits early held = let no : false ≡ true = held in absurd cc
-  go (stage.Offering node epoch) k sits early held = let no : false ≡ true = held in absurd cc
-  go (stage.Moved node epoch) k sits early held = let no : false ≡ true = held in absurd cc
-  go (stage.Closed last) k sits early held = let no : false ≡ true = held in absurd cc
+held-free : (s : Stand) (w : Owning) (x : Conn) (o : Option FrontRow) → RowStands s o → Sits w x.part.nodes o → held_there o ≡ true → IsFree s w
+held-free s w x None stands sits held = let no : false ≡ true = held in absurd cc
+held-free s w x (Some row) stands sits held = go row.stage stands sits.0 held where
+  go : (at : FrontConn) → StageStands s at → StageSits row.epoch.0 w x.part.nodes at → is_held at ≡ true → IsFree s w
+  go (stage.Held b) k sits held =
+      record { waits_is = k.0.waits_is; inside_is = k.0.inside_is; owner_is = ap (λ (w : Owning). w.owner) sits.1.0; epoch_is = subst IsOdd (sym (ap (λ (w : Owning). w.epoch) sits.1.0)) sits.0 }
+  go (stage.Waiting b) k sits held = let no : false ≡ true = held in absurd cc
+  go stage.Lent k sits held = let no : false ≡ true = held in absurd cc
+  go (stage.Offering node epoch) k sits held = let no : false ≡ true = held in absurd cc
+  go (stage.Moved node epoch) k sits held = let no : false ≡ true = held in absurd cc
+  go (stage.Closed last) k sits held = let no : false ≡ true = held in absurd cc
 
 -- behind what is read it is so yet
 reads-wait : (c : ℕ) (past : List Seen) (rs : List Rec) → Each IsRead rs → WasFree c past → EachRow (MayJoin c) past (map Row (rs ++ rec.Waits c ∷ []))
@@ -150,7 +150,7 @@ module _ (x : Conn) (lined : IsLined x) (placed : IsPlaced x) where
   noted-rows heads bare all (Reads rs e) = other-rows x.c (x.seen ++ heads) rs (Each-weaker IsRead IsNoWait (λ r h. bare-other r (read-bare r h)) rs e)
   noted-rows heads bare all (Begins out) = (tt, tt)
   noted-rows heads bare all (Waits rs e held) =
-      reads-wait x.c (x.seen ++ heads) rs e (bare-free x.c x.seen heads bare (held-free (stand_at x) (owning (tale_at x)) x x.part.front.row lined.stands placed.sits placed.early held))
+      reads-wait x.c (x.seen ++ heads) rs e (bare-free x.c x.seen heads bare (held-free (stand_at x) (owning (tale_at x)) x x.part.front.row lined.stands placed.sits held))
   noted-rows heads bare all (Goes rs r path n add remove e out) =
       rows-behind x.c (x.seen ++ heads) rs (rec.Admitted x.c ∷ rec.AssignedFirst x.c r path n add remove ∷ []) (other-rows x.c (x.seen ++ heads) rs (Each-weaker IsRead IsNoWait (λ r h. bare-other r (read-bare r h)) rs e)) (tt, (tt, tt))
   noted-rows heads bare all (Shares true rs e) = (tt, other-rows x.c ((x.seen ++ heads) ++ Row (rec.BatchOver x.c) ∷ []) rs (later-other rs e))

@@ -15,7 +15,7 @@ use Rattle.lard_law_connections.proofs.LineSteps.{IsInOrder, step-adds}
 use Rattle.lard_law_connections.proofs.LineTurns.{Notes, noting}
 use Rattle.lard_law_connections.specs.LineLaws.{AdmitsHead, LineIsKept, LineIsOfThoseWhoWait, LineNeedsAFullRoom, LinePasses, MayWait, MustRelease, TakesRelease, WaitsAtAFullRoom, WaitsAtTheFrontEnd, waits_there}
 use Rattle.lard_law_connections.specs.Line.{Line, leaves, line_left_at, line_left_by, waiting_line, line_step, nobody, all_but}
-use Rattle.lard_law_connections.specs.Places.{Owning}
+use Rattle.lard_law_connections.specs.Places.{IsOdd}
 use Rattle.lard_law_connections.proofs.PlacesRuns.{each-placed}
 use Rattle.lard_law_connections.proofs.PlacesTurns.{IsPlaced}
 use Rattle.lard_law_connections.proofs.PolicyCounted.{IsCounted, books-are-told, reached-counted, step-ordered}
@@ -144,8 +144,8 @@ module _ (config : Config) (files : List (List ℕ × List ℕ)) (checked : conf
   joins-somebody J (rec.Waits d) c e h = subst (λ (n : ℕ). May J (rec.Waits n)) (sym same) (
     (stands-so config J c).0 ∙ (stands-told c J).inside ∙ h.inside_is,
     (stands-told c J).waits_is ∙ h.waits_is,
-    owner-tale J c ∙ ap (λ (t : Tale). t.owner) (tale-own J c) ∙ ap (λ (w : Owning). w.owner) h.owning_is,
-    epoch-tale J c ∙ ap (λ (t : Tale). t.epoch) (tale-own J c) ∙ ap (λ (w : Owning). w.epoch) h.owning_is,
+    owner-tale J c ∙ ap (λ (t : Tale). t.owner) (tale-own J c) ∙ h.owner_is,
+    subst IsOdd (sym (epoch-tale J c ∙ ap (λ (t : Tale). t.epoch) (tale-own J c))) h.epoch_is,
   ) where
     same : d ≡ c
     same = cc

@@ -1,4 +1,4 @@
--- The records of a step: each release that is due stands directly behind its record; and what takes from loads stands before what adds
+-- The records of a step: each release that is due stands behind its record, and only closed nodes between; and what takes from loads stands before what adds
 -- to them.
 use Rattle.std.proofs.Common.{◌≡◌, ℕ, ◌+◌, ◌-◌, Bool, true, false, cond, List, [], ◌∷◌, ◌++◌, map, Option, Ok, refl, sym, ap, ◌∙◌, subst, append_assoc, append-nil, ⊎_elim, ◌||◌, nat_lt, ◌⊎◌, inl, inr}
 use Rattle.lard_law_view.specs.Prelude.{Client, Epoch, Event, Front, HasRule, IsViewed, Machine, Move, Node, Out, Packet, Part, Place, Rec, Row, Rules, Seen, clocked, conn, lose_at, machine_step, machine_told, over_note, passed, seen_on, setting_of}
@@ -94,6 +94,7 @@ module _ (inside : ℕ → Bool) where
   released-append Nothing [] ys h k = k
   released-append (Release c) [] ys h k = absurd h
   released-append Nothing (x ∷ xs) ys h k = released-append (due_behind inside x) xs ys h k
+  released-append (Release c) (rec.Closed n ∷ xs) ys h k = released-append (Release c) xs ys h k
   released-append (Release c) (x ∷ xs) ys h k = (h.0, released-append Nothing xs ys h.1 k)
 
   -- where nothing is due
@@ -233,8 +234,10 @@ module _ (inside : ℕ → Bool) where
   front-released : (o : LineDue) (xs zs : List Rec) → AreReleased inside o (xs ++ zs) → Each IsRising zs → AreReleased inside o xs
   front-released Nothing [] zs h e = tt
   front-released (Release c) [] [] h e = absurd h
+  front-released (Release c) [] (rec.Closed n ∷ zs) h e = absurd e.0
   front-released (Release c) [] (z ∷ zs) h e = absurd (subst IsRising h.0 e.0)
   front-released Nothing (x ∷ xs) zs h e = front-released (due_behind inside x) xs zs h e
+  front-released (Release c) (rec.Closed n ∷ xs) zs h e = front-released (Release c) xs zs h e
   front-released (Release c) (x ∷ xs) zs h e = (h.0, front-released Nothing xs zs h.1 e)
 
   -- what falls first falls first in front of others

@@ -7,7 +7,7 @@ use Rattle.lard_law_view.proofs.Saying.{NotedAt}
 use Rattle.lard_law_view.proofs.Shapes.{NamesNobody}
 use Rattle.lard_law_connections.proofs.Calm.{Allows, AllowsNotes}
 use Rattle.lard_law_connections.proofs.Forms.{IsNoFront}
-use Rattle.lard_law_connections.specs.PolicyLaws.{ArePaired, AssignmentDue, MayAdmit, MayAssign, MayRelease, MayShare, last_record}
+use Rattle.lard_law_connections.specs.PolicyLaws.{ArePaired, AssignmentDue, MayAdmit, MayAssign, MayRelease, MayShare, but_closed_step, last_but_closed, last_record}
 use Rattle.lard_law_connections.specs.PolicyLaws.AssignmentDue.{First, Later, Nothing}
 use Rattle.lard_counts.specs.Ledger.{Ledger, blank_ledger, ledger, ledger_step}
 use Rattle.lard_history.proofs.Each.{Each}
@@ -36,25 +36,26 @@ pub may-from : (cfg : Config) (may : Ledger → Rec → Type 0) (past rs : List 
 may-from cfg may past [] e = tt
 may-from cfg may past (r ∷ rs) e = (e.0, subst (λ (l : Ledger). EachFrom may l rs) (fold-append ledger_step (blank_ledger cfg) past (r ∷ [])) (may-from cfg may (past ++ r ∷ []) rs e.1))
 
--- ---- what stands directly before
+-- ---- what stands before: the last record, and the last that closes no node
 
-abbrev pub MayFollow : Option Rec → Ledger → Rec → Type 0
-MayFollow before l r = MayShare before l r × MayRelease before r
+abbrev pub MayFollow : Option Rec → Option Rec → Ledger → Rec → Type 0
+MayFollow before but_closed l r = MayShare before l r × MayRelease but_closed r
 
-abbrev pub EachAfter : Option Rec → Ledger → List Rec → Type 0
-EachAfter before l [] = Unit {0}
-EachAfter before l (r ∷ rs) = MayFollow before l r × EachAfter (Some r) (ledger_step l r) rs
+abbrev pub EachAfter : Option Rec → Option Rec → Ledger → List Rec → Type 0
+EachAfter before but_closed l [] = Unit {0}
+EachAfter before but_closed l (r ∷ rs) = MayFollow before but_closed l r × EachAfter (Some r) (but_closed_step but_closed r) (ledger_step l r) rs
 
-pub after-append : (before : Option Rec) (l : Ledger) (xs ys : List Rec) → EachAfter before l xs → ((o : Option Rec) → EachAfter o (fold ledger_step l xs) ys) → EachAfter before l (xs ++ ys)
-after-append before l [] ys e f = f before
-after-append before l (x ∷ xs) ys e f = (e.0, after-append (Some x) (ledger_step l x) xs ys e.1 f)
+pub after-append : (before but_closed : Option Rec) (l : Ledger) (xs ys : List Rec) → EachAfter before but_closed l xs → ((o p : Option Rec) → EachAfter o p (fold ledger_step l xs) ys) → EachAfter before but_closed l (xs ++ ys)
+after-append before but_closed l [] ys e f = f before but_closed
+after-append before but_closed l (x ∷ xs) ys e f = (e.0, after-append (Some x) (but_closed_step but_closed x) (ledger_step l x) xs ys e.1 f)
 
-pub after-may : (cfg : Config) (past rs : List Rec) → EachAfter (last_record past) (ledger cfg past) rs → EachMay (λ past r. MayFollow (last_record past) (ledger cfg past) r) past rs
+pub after-may : (cfg : Config) (past rs : List Rec) → EachAfter (last_record past) (last_but_closed past) (ledger cfg past) rs → EachMay (λ past r. MayFollow (last_record past) (last_but_closed past) (ledger cfg past) r) past rs
 after-may cfg past [] e = tt
 after-may cfg past (r ∷ rs) e = (
   e.0,
-  after-may cfg (past ++ r ∷ []) rs (subst (λ (o : Option Rec). EachAfter o (ledger cfg (past ++ r ∷ [])) rs) (sym (fold-append (λ (before : Option Rec) (r : Rec). Some r) None past (r ∷ [])))
-      (subst (λ (l : Ledger). EachAfter (Some r) l rs) (sym (fold-append ledger_step (blank_ledger cfg) past (r ∷ []))) e.1)),
+  after-may cfg (past ++ r ∷ []) rs (subst (λ (o : Option Rec). EachAfter o (last_but_closed (past ++ r ∷ [])) (ledger cfg (past ++ r ∷ [])) rs) (sym (fold-append (λ (before : Option Rec) (r : Rec). Some r) None past (r ∷ [])))
+      (subst (λ (o : Option Rec). EachAfter (Some r) o (ledger cfg (past ++ r ∷ [])) rs) (sym (fold-append but_closed_step None past (r ∷ [])))
+      (subst (λ (l : Ledger). EachAfter (Some r) (but_closed_step (last_but_closed past) r) l rs) (sym (fold-append ledger_step (blank_ledger cfg) past (r ∷ []))) e.1))),
 )
 
 pub paired-append : (due : AssignmentDue) (xs ys : List Rec) → ArePaired due xs → ArePaired Nothing ys → ArePaired due (xs ++ ys)
@@ -88,7 +89,7 @@ IsAside _ = Unit {0}
 pub record ChangesNothing (r : Rec) : Type 0 where
   pub same : (l : Ledger) → ledger_step l r ≡ l
   pub may : (cfg : Config) (l : Ledger) → May cfg l r
-  pub follow : (before : Option Rec) (l : Ledger) → MayFollow before l r
+  pub follow : (before but_closed : Option Rec) (l : Ledger) → MayFollow before but_closed l r
   pub pair : (rs : List Rec) → ArePaired Nothing rs → ArePaired Nothing (r ∷ rs)
 
 pub aside : (r : Rec) → IsAside r → ChangesNothing r
@@ -100,7 +101,7 @@ aside (rec.AssignedFirst c r path n add remove) h = absurd h
 aside (rec.AssignedLater c r path n add size queue) h = absurd h
 aside (rec.BatchOver c) h = absurd h
 aside (rec.Closed n) h = absurd h
-aside _ h = record { same = λ l. refl; may = λ cfg l. (tt, tt); follow = λ before l. (tt, tt); pair = λ rs h. h }
+aside _ h = record { same = λ l. refl; may = λ cfg l. (tt, tt); follow = λ before but_closed l. (tt, tt); pair = λ rs h. h }
 
 pub asides-same : (l : Ledger) (rs : List Rec) → Each IsAside rs → fold ledger_step l rs ≡ l
 asides-same l [] e = refl
@@ -110,9 +111,9 @@ pub asides-may : (cfg : Config) (l : Ledger) (rs : List Rec) → Each IsAside rs
 asides-may cfg l [] e = tt
 asides-may cfg l (r ∷ rs) e = ((aside r e.0).may cfg l, asides-may cfg (ledger_step l r) rs e.1)
 
-pub asides-after : (before : Option Rec) (l : Ledger) (rs : List Rec) → Each IsAside rs → EachAfter before l rs
-asides-after before l [] e = tt
-asides-after before l (r ∷ rs) e = ((aside r e.0).follow before l, asides-after (Some r) (ledger_step l r) rs e.1)
+pub asides-after : (before but_closed : Option Rec) (l : Ledger) (rs : List Rec) → Each IsAside rs → EachAfter before but_closed l rs
+asides-after before but_closed l [] e = tt
+asides-after before but_closed l (r ∷ rs) e = ((aside r e.0).follow before but_closed l, asides-after (Some r) (but_closed_step but_closed r) (ledger_step l r) rs e.1)
 
 pub asides-paired : (rs : List Rec) → Each IsAside rs → ArePaired Nothing rs
 asides-paired [] e = tt

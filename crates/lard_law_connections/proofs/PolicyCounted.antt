@@ -23,7 +23,7 @@ use Rattle.lard_law_connections.proofs.PolicyStanding.{HasNodes, all-has, blank-
 use Rattle.lard_law_connections.proofs.PolicySteps.{StepTells, step-tells}
 use Rattle.lard_law_connections.proofs.PolicyWaiting.{Leaves, asides-idle, between-leaves, idle-leaves, who}
 use Rattle.lard_law_connections.specs.PolicyLine.{IsSublist, waiting, waiting_step}
-use Rattle.lard_law_connections.specs.PolicyLaws.{AdmitsByRoom, AdmitsFirst, AdmitsInOrder, AdmitsToANode, ArePaired, AssignsAsStated, BooksAreTold, LineIsTold, LoadsAreAlwaysCharges, MayAdmit, MayAssign, MayRelease, MayShare, PassesOn, ReleasesWhatItTook, ServersAreTold, SharesOneBatch, StandingsAreTold, RoomIsNeverPassed, last_record}
+use Rattle.lard_law_connections.specs.PolicyLaws.{AdmitsByRoom, AdmitsFirst, AdmitsInOrder, AdmitsToANode, ArePaired, AssignsAsStated, BooksAreTold, LineIsTold, LoadsAreAlwaysCharges, MayAdmit, MayAssign, MayRelease, MayShare, PassesOn, ReleasesWhatItTook, ServersAreTold, SharesOneBatch, StandingsAreTold, RoomIsNeverPassed, last_but_closed, last_record}
 use Rattle.lard_law_connections.specs.PolicyLaws.AssignmentDue.{Nothing}
 use Rattle.lard_counts.specs.Ledger.{Ledger, ledger_admitted, blank_ledger, ledger, ledger_step}
 use Rattle.lard_law_connections.specs.PolicyLoads.{charges}
@@ -40,7 +40,7 @@ abbrev pub Lawful : Config → List Rec → List Rec → Type 0
 Lawful cfg past rs = EachMay (λ past r. May cfg (ledger cfg past) r) past rs
 
 abbrev pub Follows : Config → List Rec → List Rec → Type 0
-Follows cfg past rs = EachMay (λ past r. MayFollow (last_record past) (ledger cfg past) r) past rs
+Follows cfg past rs = EachMay (λ past r. MayFollow (last_record past) (last_but_closed past) (ledger cfg past) r) past rs
 
 abbrev time_in : Machine → Millis
 time_in m = record { 0 = m.now }
@@ -69,8 +69,8 @@ module _ (cfg : Config) (m : Machine) (counted : IsCounted cfg m) where
       (from-may cfg (May cfg) m.journal rows (subst (λ (l : Ledger). EachFrom (May cfg) l rows) (sym counted.is) leads.may))
 
   on-follows : (rows : List Rec) (d : Books) → Leads cfg (time_in m) counted.ins m.front.dispatch.books rows d → Follows cfg [] (m.journal ++ rows)
-  on-follows rows d leads = each_append (λ past r. MayFollow (last_record past) (ledger cfg past) r) [] m.journal rows counted.follows
-      (after-may cfg m.journal rows (subst (λ (l : Ledger). EachAfter (last_record m.journal) l rows) (sym counted.is) (leads.after (last_record m.journal))))
+  on-follows rows d leads = each_append (λ past r. MayFollow (last_record past) (last_but_closed past) (ledger cfg past) r) [] m.journal rows counted.follows
+      (after-may cfg m.journal rows (subst (λ (l : Ledger). EachAfter (last_record m.journal) (last_but_closed m.journal) l rows) (sym counted.is) (leads.after (last_record m.journal) (last_but_closed m.journal))))
 
   on-line : (rows : List Rec) (after : List Waiting) → Leaves m.front.dispatch.books.line rows after → IsSublist (who after) (waiting (m.journal ++ rows))
   on-line rows after leaves = subst (IsSublist (who after)) (sym (fold-append waiting_step [] m.journal rows)) (leaves (waiting m.journal) counted.line)
@@ -151,7 +151,7 @@ module _ (cfg : Config) (m : Machine) (counted : IsCounted cfg m) where
         is = fold-append ledger_step (blank_ledger cfg) m.journal rows ∙ ap (λ (l : Ledger). fold ledger_step l rows) counted.is;
         law = each_append (λ past r. May cfg (ledger cfg past) r) [] m.journal rows counted.law (from-may cfg (May cfg) m.journal rows ((tt, tt), ((tt, tt), tt)));
         paired = paired-append Nothing m.journal rows counted.paired tt;
-        follows = each_append (λ past r. MayFollow (last_record past) (ledger cfg past) r) [] m.journal rows counted.follows ((tt, tt), ((tt, tt), tt));
+        follows = each_append (λ past r. MayFollow (last_record past) (last_but_closed past) (ledger cfg past) r) [] m.journal rows counted.follows ((tt, tt), ((tt, tt), tt));
         line = on-line rows m.front.dispatch.books.line (idle-leaves m.front.dispatch.books.line rows ((λ ys. refl), ((λ ys. refl), tt)));
       }
 
@@ -244,11 +244,11 @@ admits-in-order config files m n e checked r rule is = step-ordered config m (re
 
 pub shares-one-batch : SharesOneBatch
 shares-one-batch config files m checked r =
-    each_weaker (λ past r. MayFollow (last_record past) (ledger config past) r) (λ past r. MayShare (last_record past) (ledger config past) r) (λ past r h. h.0) [] m.journal (reached-counted config files checked m r).follows
+    each_weaker (λ past r. MayFollow (last_record past) (last_but_closed past) (ledger config past) r) (λ past r. MayShare (last_record past) (ledger config past) r) (λ past r h. h.0) [] m.journal (reached-counted config files checked m r).follows
 
 pub releases-what-it-took : ReleasesWhatItTook
 releases-what-it-took config files m checked r =
-    each_weaker (λ past r. MayFollow (last_record past) (ledger config past) r) (λ past r. MayRelease (last_record past) r) (λ past r h. h.1) [] m.journal (reached-counted config files checked m r).follows
+    each_weaker (λ past r. MayFollow (last_record past) (last_but_closed past) (ledger config past) r) (λ past r. MayRelease (last_but_closed past) r) (λ past r h. h.1) [] m.journal (reached-counted config files checked m r).follows
 
 pub books-are-told : BooksAreTold
 books-are-told config files m checked r =

@@ -32,12 +32,12 @@ pub record Leads (cfg : Config) (now : Millis) (ins : List ℕ) (b : Books) (not
   pub in_ : AreIn more d.loads.standings
   pub may : EachFrom (May cfg) (at now ins b) notes
   pub paired : ArePaired Nothing notes
-  pub after : (before : Option Rec) → EachAfter before (at now ins b) notes
+  pub after : (before but_closed : Option Rec) → EachAfter before but_closed (at now ins b) notes
 
 module _ (cfg : Config) (now : Millis) (ins : List ℕ) (b : Books) (in_ : AreIn ins b.loads.standings) where
   -- notes aside
   pub aside-leads : (notes : List Rec) → Each IsAside notes → Leads cfg now ins b notes b
-  aside-leads notes asides = record { more = ins; then = asides-same (at now ins b) notes asides; in_ = in_; may = asides-may cfg (at now ins b) notes asides; paired = asides-paired notes asides; after = λ before. asides-after before (at now ins b) notes asides }
+  aside-leads notes asides = record { more = ins; then = asides-same (at now ins b) notes asides; in_ = in_; may = asides-may cfg (at now ins b) notes asides; paired = asides-paired notes asides; after = λ before but_closed. asides-after before but_closed (at now ins b) notes asides }
 
   -- ---- a first choice
 
@@ -49,13 +49,13 @@ module _ (cfg : Config) (now : Millis) (ins : List ℕ) (b : Books) (in_ : AreIn
     in_ = in-more ins b.loads.standings c _ in_ free;
     may = (((subst (λ (n : ℕ). n < room_of cfg) (sym in_.many) less, in-not ins b.loads.standings c in_ free), tt), ((tt, (ap home_of free, refl)), tt));
     paired = (refl, tt);
-    after = λ before. ((tt, tt), ((tt, tt), tt));
+    after = λ before but_closed. ((tt, tt), ((tt, tt), tt));
   }
 
   -- ---- no room
 
   pub wait-leads : (c : ℕ) (line : List Waiting) → admitted b.loads ≡ room_of cfg → Leads cfg now ins b (rec.Waits c ∷ []) (record b { line = line })
-  wait-leads c line full = record { more = ins; then = refl; in_ = in_; may = ((in_.many ∙ full, tt), tt); paired = tt; after = λ before. ((tt, tt), tt) }
+  wait-leads c line full = record { more = ins; then = refl; in_ = in_; may = ((in_.many ∙ full, tt), tt); paired = tt; after = λ before but_closed. ((tt, tt), tt) }
 
   -- ---- a release
 
@@ -66,14 +66,14 @@ module _ (cfg : Config) (now : Millis) (ins : List ℕ) (b : Books) (in_ : AreIn
     in_ = in-less ins b.loads.standings c in_ there;
     may = ((tt, tt), ((in-there ins b.loads.standings c in_ there, has-home (map.get b.loads.standings c) there), tt));
     paired = tt;
-    after = λ before. ((tt, tt), ((tt, refl), tt));
+    after = λ before but_closed. ((tt, tt), ((tt, refl), tt));
   }
 
   -- ---- a node that is closed
 
   pub close-leads : (n : ℕ) → is_open b.loads n ≡ true → has_other_open b.loads n ≡ true
       → Leads cfg now ins b (rec.Closed n ∷ []) (record b { loads = tally_closed b.loads n; sets = sets_closed b.sets n })
-  close-leads n opened other = record { more = ins; then = refl; in_ = in_; may = ((tt, (opened, other)), tt); paired = tt; after = λ before. ((tt, tt), tt) }
+  close-leads n opened other = record { more = ins; then = refl; in_ = in_; may = ((tt, (opened, other)), tt); paired = tt; after = λ before but_closed. ((tt, tt), tt) }
 
 -- one behind another
 pub both-lead : (cfg : Config) (now : Millis) (ins : List ℕ) (b d e : Books) (xs ys : List Rec) → (one : Leads cfg now ins b xs d) → Leads cfg now one.more d ys e → Leads cfg now ins b (xs ++ ys) e
@@ -83,7 +83,7 @@ both-lead cfg now ins b d e xs ys one two = record {
   in_ = two.in_;
   may = from-append (May cfg) (at now ins b) xs ys one.may (subst (λ (l : Ledger). EachFrom (May cfg) l ys) (sym one.then) two.may);
   paired = paired-append Nothing xs ys one.paired two.paired;
-  after = λ before. after-append before (at now ins b) xs ys (one.after before) (λ o. subst (λ (l : Ledger). EachAfter o l ys) (sym one.then) (two.after o));
+  after = λ before but_closed. after-append before but_closed (at now ins b) xs ys (one.after before but_closed) (λ o p. subst (λ (l : Ledger). EachAfter o p l ys) (sym one.then) (two.after o p));
 }
 
 -- behind notes aside
@@ -125,12 +125,13 @@ module _ (cfg : Config) (now : Millis) (ask : Ask) where
       record { then = later.then; in_ = later.in_; may = ((tt, (ask.home, at_home, refl, least, most, omega (arith, room))), later.may); paired = later.paired }
 
   -- the first of a batch finds no share open, and the others stand directly behind it
-  shares-after : (ins : List ℕ) (r : ℕ) (paths : List (List ℕ)) (b : Books) (before : Option Rec) → IsBehind ask.c before ⊎ (open_shares b.loads ask.c ≡ 0)
-      → EachAfter before (at now ins b) (assigned_notes ask.c ask r paths (all_choices cfg ask now paths b))
-  shares-after ins r [] b before h = tt
-  shares-after ins r (path ∷ paths) b before h =
+  shares-after : (ins : List ℕ) (r : ℕ) (paths : List (List ℕ)) (b : Books) (before but_closed : Option Rec) → IsBehind ask.c before ⊎ (open_shares b.loads ask.c ≡ 0)
+      → EachAfter before but_closed (at now ins b) (assigned_notes ask.c ask r paths (all_choices cfg ask now paths b))
+  shares-after ins r [] b before but_closed h = tt
+  shares-after ins r (path ∷ paths) b before but_closed h =
       let choice : LaterChoice = later_choice_at cfg b ask path in
-      ((h, tt), shares-after ins (r + 1) paths (shared_with cfg b ask path now) (Some (rec.AssignedLater ask.c (r + 1) path choice.node choice.add ask.size ask.queue)) (inl refl))
+      let it : Option Rec = Some (rec.AssignedLater ask.c (r + 1) path choice.node choice.add ask.size ask.queue) in
+      ((h, tt), shares-after ins (r + 1) paths (shared_with cfg b ask path now) it it (inl refl))
 
   -- the line stays
   pub line-shared : (paths : List (List ℕ)) (b : Books) → (all_shared cfg ask now paths b).line ≡ b.line
@@ -155,15 +156,15 @@ module _ (cfg : Config) (now : Millis) (ask : Ask) where
     then : fold ledger_step (at now ins b) notes ≡ at now ins (batch_over b ask)
     in_ : AreIn ins (batch_over b ask).loads.standings
     may : EachFrom (May cfg) (at now ins b) notes
-    after : (before : Option Rec) → EachAfter before (at now ins b) notes
+    after : (before but_closed : Option Rec) → EachAfter before but_closed (at now ins b) notes
 
   over-ends : (ins : List ℕ) (b : Books) → AreIn ins b.loads.standings → (over : Bool) → nat_lt 0 (open_shares b.loads ask.c) ≡ over → Ends ins b (over_note ask.c over)
-  over-ends ins b in_ true is = record { then = refl; in_ = ended-in ins b.loads in_; may = ((tt, is), tt); after = λ before. ((tt, tt), tt) }
+  over-ends ins b in_ true is = record { then = refl; in_ = ended-in ins b.loads in_; may = ((tt, is), tt); after = λ before but_closed. ((tt, tt), tt) }
   over-ends ins b in_ false is = record {
     then = ap (λ (t : Tally). record { now = now; ins = ins; loads = t; sets = b.sets }) (sym (none-ends b.loads is));
     in_ = ended-in ins b.loads in_;
     may = tt;
-    after = λ before. tt;
+    after = λ before but_closed. tt;
   }
 
   -- an assignment stands directly behind it
@@ -188,6 +189,6 @@ module _ (cfg : Config) (now : Millis) (ask : Ask) where
         in_ = shares.in_;
         may = from-append (May cfg) (at now ins b) xs ys over.may (subst (λ (l : Ledger). EachFrom (May cfg) l ys) (sym over.then) shares.may);
         paired = batch-paired open_ r ask.paths (batch_over b ask) some shares.paired;
-        after = λ before. after-append before (at now ins b) xs ys (over.after before)
-            (λ o. subst (λ (l : Ledger). EachAfter o l ys) (sym over.then) (shares-after ins r ask.paths (batch_over b ask) o (inr (shares-ended b.loads ask.c))));
+        after = λ before but_closed. after-append before but_closed (at now ins b) xs ys (over.after before but_closed)
+            (λ o p. subst (λ (l : Ledger). EachAfter o p l ys) (sym over.then) (shares-after ins r ask.paths (batch_over b ask) o p (inr (shares-ended b.loads ask.c))));
       }

@@ -4,6 +4,7 @@ use Rattle.std.specs.FinMap as table
 use Rattle.std.specs.List.{list_any}
 use Rattle.lard_law_view.specs.Prelude.{AtEachEnd, Config, EachMay, EachStep, Front, FrontRow, IsReached, Machine, Rec, config_check, home_told, is_node_closed, is_home_of_node, is_waiting, last_epoch, owner, room_of, steps}
 use Rattle.lard_law_connections.specs.Line.{waiting_line}
+use Rattle.lard_law_connections.specs.Places.{IsOdd}
 use Rattle.lard_law_connections.specs.PolicyLaws.{AtEveryMoment, last_record}
 use Rattle.lard_counts.specs.Ledger.{Ledger, ledger_admitted, is_in_ledger, ledger}
 use Rattle.lard_law_connections.specs.PolicyLoads.{load_told}
@@ -37,9 +38,9 @@ LineNeedsAFullRoom config J = 0 < length (waiting_line J) → ledger_admitted (l
 abbrev pub WaitsAtAFullRoom : Type 0
 WaitsAtAFullRoom = AlwaysConfigured (λ config m. AtEachEnd (LineNeedsAFullRoom config) m.journal)
 
--- A connection is to wait only where it is not admitted, is not in the line, and the front end owns it, in its first epoch.
+-- A connection is to wait only where it is not admitted, is not in the line, and the front end owns it, in an odd epoch.
 abbrev pub MayWait : Ledger → List Rec → Rec → Type 0
-MayWait l past (rec.Waits c) = (is_in_ledger l c ≡ false) × (list_any (nat_eq c) (waiting_line past) ≡ false) × (owner past c ≡ Some Front) × (last_epoch past c ≡ 1)
+MayWait l past (rec.Waits c) = (is_in_ledger l c ≡ false) × (list_any (nat_eq c) (waiting_line past) ≡ false) × (owner past c ≡ Some Front) × IsOdd (last_epoch past c)
 MayWait l past _ = Unit {0}
 
 -- So it is of each record.
@@ -67,7 +68,7 @@ LinePasses = AlwaysConfigured (λ config m. EachMay MayPass [] m.journal)
 
 -- ---- releases
 
--- what is due directly behind a record: nothing, or the release of a connection
+-- what is due behind a record: nothing, or the release of a connection
 pub data LineDue : Type 0 where
   Nothing : LineDue
   Release : ℕ → LineDue
@@ -77,18 +78,19 @@ abbrev pub due_behind : (ℕ → Bool) → Rec → LineDue
 due_behind inside (rec.Took Front c epoch) = if inside c || nat_lt 1 epoch.0 then Release c else Nothing
 due_behind inside _ = Nothing
 
--- each that is due stands there
+-- Each that is due stands there; only that a node is closed stands between.
 abbrev pub AreReleased : (ℕ → Bool) → LineDue → List Rec → Type 0
 AreReleased inside Nothing [] = Unit {0}
 AreReleased inside (Release c) [] = ⊥
 AreReleased inside Nothing (r ∷ rs) = AreReleased inside (due_behind inside r) rs
+AreReleased inside (Release c) (rec.Closed n ∷ rs) = AreReleased inside (Release c) rs
 AreReleased inside (Release c) (r ∷ rs) = (r ≡ rec.Released c) × AreReleased inside Nothing rs
 
 abbrev pub MustRelease : Config → List Rec → List Rec → Type 0
 MustRelease config past s = AreReleased (is_in_ledger (ledger config past)) Nothing s
 
 -- Where the front end takes a connection that is admitted, or takes it in an epoch behind the first, the connection is released,
--- directly behind that record.
+-- behind that record; only that a node is closed stands between.
 abbrev pub TakesRelease : Type 0
 TakesRelease = AlwaysConfigured (λ config m. EachStep (MustRelease config) [] (steps m.journal))
 

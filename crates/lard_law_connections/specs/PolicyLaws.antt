@@ -78,7 +78,7 @@ abbrev pub IsTaken : ℕ → Option Rec → Type 0
 IsTaken c (Some (rec.Took Front d epoch)) = d ≡ c
 IsTaken c _ = ⊥
 
--- A release stands directly behind the record that the front end took the connection.
+-- A release stands behind the record that the front end took the connection; only that a node is closed stands between.
 abbrev pub MayRelease : Option Rec → Rec → Type 0
 MayRelease before (rec.Released c) = IsTaken c before
 MayRelease before _ = Unit {0}
@@ -86,6 +86,15 @@ MayRelease before _ = Unit {0}
 -- the last record, if there is one
 abbrev pub last_record : List Rec → Option Rec
 last_record J = fold (λ before r. Some r) None J
+
+-- a record that closes a node leaves the one before it
+abbrev pub but_closed_step : Option Rec → Rec → Option Rec
+but_closed_step before (rec.Closed n) = before
+but_closed_step before r = Some r
+
+-- the last record that closes no node, if there is one
+abbrev pub last_but_closed : List Rec → Option Rec
+last_but_closed J = fold but_closed_step None J
 
 -- ---- every run, with a configuration that may be used
 
@@ -101,7 +110,7 @@ abbrev pub AdmitsToANode : Type 0
 AdmitsToANode = (config : Config) (files : List (List ℕ × List ℕ)) (m : Machine) → config_check config ≡ Ok tt → IsReached config files m → ArePaired Nothing m.journal
 
 abbrev pub ReleasesWhatItTook : Type 0
-ReleasesWhatItTook = (config : Config) (files : List (List ℕ × List ℕ)) (m : Machine) → config_check config ≡ Ok tt → IsReached config files m → EachMay (λ past r. MayRelease (last_record past) r) [] m.journal
+ReleasesWhatItTook = (config : Config) (files : List (List ℕ × List ℕ)) (m : Machine) → config_check config ≡ Ok tt → IsReached config files m → EachMay (λ past r. MayRelease (last_but_closed past) r) [] m.journal
 
 abbrev pub SharesOneBatch : Type 0
 SharesOneBatch = (config : Config) (files : List (List ℕ × List ℕ)) (m : Machine) → config_check config ≡ Ok tt → IsReached config files m

@@ -27,7 +27,7 @@ ghost use Rattle.lard_law_connections.specs.StoresLaws.{CachesAreTold, DisksAreR
 /// only where it is admitted; at no moment are more admitted than there is room for; and one that is admitted is assigned at
 /// once, as is one whose shares end.
 /// In each step those who wait are admitted in the order of the line, and where one is released the first of them is. One is
-/// released directly behind the record that the front end took it.
+/// released behind the record that the front end took it; only that a node is closed stands between.
 pub fn admission_is_counted()
     ensures records { AdmitsByRoom }
     ensures room { RoomIsNeverPassed }
@@ -92,7 +92,7 @@ pub fn connections_move()
 /// order, but for each whose segment came to the front end that decodes, has RST and the acknowledgement number of the last segment
 /// that the cluster sent to its client, and no length unless that segment told a window above 0. So it is of connections that the
 /// schedule touched, too. Those who wait at the front end are in it, and nobody else.
-/// A connection is told to wait only where it is not admitted, is not in the line, and the front end owns it, in its first epoch.
+/// A connection is told to wait only where it is not admitted, is not in the line, and the front end owns it, in an odd epoch.
 /// Wherever a step ends, somebody is in the line only where as many are admitted as there is room for.
 /// Wherever one is admitted while somebody is in the line, it is its first; and wherever one is released while somebody is, its first is
 /// admitted directly behind that.
@@ -105,7 +105,8 @@ pub fn the_line_is_told()
 {}
 
 /// In each step, where the front end takes a connection that was admitted before it, or takes it in an epoch behind the first, the
-/// connection is released directly behind that record. That nothing else releases one is a law of admission (`lard_law_connections`).
+/// connection is released behind that record; only that a node is closed stands between. That nothing else releases one is a law of
+/// admission (`lard_law_connections`).
 pub fn what_is_taken_back_is_released()
     ensures { TakesRelease }
 {}

@@ -11,7 +11,7 @@ use Rattle.lard_law_connections.specs.LineLaws.{HasFewConnections, IsNearTheThre
 use Rattle.lard_law_connections.specs.Motion.{MustMove}
 use Rattle.lard_law_connections.specs.Offers.{CarryTheEndpoint}
 use Rattle.lard_law_connections.specs.ResetsLaws.{SendsRstBehindResets}
-use Rattle.lard_law_connections.specs.PolicyLaws.{AreLoadsCharged, ArePaired, AreServersTold, MayAdmit, MayAssign, MayRelease, MayShare, Nothing, last_record}
+use Rattle.lard_law_connections.specs.PolicyLaws.{AreLoadsCharged, ArePaired, AreServersTold, MayAdmit, MayAssign, MayRelease, MayShare, Nothing, last_but_closed, last_record}
 use Rattle.lard_counts.specs.Ledger.{Ledger, ledger_admitted, ledger}
 use Rattle.lard_laws.specs.Due.{AnswersWhatIsDue}
 use Rattle.lard_laws.specs.Quiet.{CompletesWhenQuiet}
@@ -66,7 +66,7 @@ pub record IsLawful (config : Config) (files : FilesAt) (J : List Rec) : Type 0 
   pub admission : EachCounted MayAdmit config J
   pub room : Throughout (λ l past. ledger_admitted l ≤ room_of config) config J
   pub nodes : ArePaired Nothing J
-  pub releases : EachMay (λ past r. MayRelease (last_record past) r) [] J
+  pub releases : EachMay (λ past r. MayRelease (last_but_closed past) r) [] J
   pub taken_back : EachStep (MustRelease config) [] (steps J)
   -- the line: who is told to wait joins it, somebody is in it only at a full room, and who is admitted is its first
   pub joins : EachMay (λ past r. MayWait (ledger config past) past r) [] J

@@ -4,7 +4,7 @@ use Rattle.lard_law_view.specs.Prelude.{AtEachEnd, EachMay, EachStep, Front, Nod
 use Rattle.lard_base.specs.declared.event.Event.TheVariants as event
 use Rattle.lard_laws.specs.Lawful.{EachCounted, Throughout}
 use Rattle.lard_law_connections.specs.LineLaws.{LineNeedsAFullRoom, MayPass, MayWait, MustRelease}
-use Rattle.lard_law_connections.specs.PolicyLaws.{ArePaired, MayAdmit, MayRelease, Nothing, last_record}
+use Rattle.lard_law_connections.specs.PolicyLaws.{ArePaired, MayAdmit, MayRelease, Nothing, last_but_closed}
 use Rattle.lard_counts.specs.Ledger.{ledger_admitted, ledger}
 use Rattle.lard_journal.specs.declared.rec.Rec.TheVariants as rec
 use Rattle.lard_refusals.specs.Refusals.{Law, took}
@@ -65,7 +65,7 @@ batch_over_for_nothing = rec.BatchOver 1 ∷ rec.Event 1 (event.Shut 2) ∷ []
 -- ---- releases
 
 abbrev pub releases : Law
-releases config files J = EachMay (λ past r. MayRelease (last_record past) r) [] J
+releases config files J = EachMay (λ past r. MayRelease (last_but_closed past) r) [] J
 
 -- A connection is released that the front end did not take.
 abbrev pub released_where_it_is : List Rec
@@ -75,6 +75,10 @@ released_where_it_is = rec.Admitted 1 ∷ rec.Event 1 (event.Timer Front 1) ∷ 
 abbrev pub another_is_released : List Rec
 another_is_released = took Front 2 3 ∷ rec.Released 1 ∷ []
 
+-- Another record than that a node is closed stands between.
+abbrev pub another_waits_between : List Rec
+another_waits_between = rec.Event 1 (event.Deliver 1) ∷ took Front 1 3 ∷ rec.Closed 1 ∷ rec.Waits 2 ∷ rec.Released 1 ∷ []
+
 abbrev pub taken_back : Law
 taken_back config files J = EachStep (MustRelease config) [] (steps J)
 
@@ -82,9 +86,17 @@ taken_back config files J = EachStep (MustRelease config) [] (steps J)
 abbrev pub taken_and_not_released : List Rec
 taken_and_not_released = rec.Event 1 (event.Deliver 1) ∷ took Front 1 3 ∷ []
 
+-- That a node is closed is no release.
+abbrev pub taken_and_closed : List Rec
+taken_and_closed = rec.Event 1 (event.Deliver 1) ∷ took Front 1 3 ∷ rec.Closed 1 ∷ []
+
 -- It releases it.
 abbrev pub taken_and_released : List Rec
 taken_and_released = rec.Event 1 (event.Deliver 1) ∷ took Front 1 3 ∷ rec.Released 1 ∷ []
+
+-- Only that a node is closed stands between.
+abbrev pub taken_closed_and_released : List Rec
+taken_closed_and_released = rec.Event 1 (event.Deliver 1) ∷ took Front 1 3 ∷ rec.Closed 1 ∷ rec.Released 1 ∷ []
 
 -- ---- the line
 
@@ -106,6 +118,10 @@ waits_once = took Front 1 1 ∷ rec.Waits 1 ∷ []
 -- One waits that came back from a node.
 abbrev pub waits_once_more : List Rec
 waits_once_more = took Front 1 3 ∷ rec.Waits 1 ∷ []
+
+-- One waits that the front end took in an epoch of a node.
+abbrev pub waits_in_an_even_epoch : List Rec
+waits_in_an_even_epoch = took Front 1 2 ∷ rec.Waits 1 ∷ []
 
 abbrev pub line : Law
 line config files J = AtEachEnd (LineNeedsAFullRoom config) J

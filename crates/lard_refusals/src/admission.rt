@@ -30,28 +30,34 @@ pub fn nodes_refuses()
     ensures admitted_to_a_node { Allows the.nodes the.admitted_to_a_node }
 {}
 
-/// A release stands directly behind the record that the front end took the connection.
+/// A release stands behind the record that the front end took the connection; only that a node is closed stands between.
 pub fn releases_refuses()
     ensures law { IsLawOfAll the.releases }
     ensures released_where_it_is { Refuses the.releases the.released_where_it_is }
     ensures another_is_released { Refuses the.releases the.another_is_released }
+    ensures another_waits_between { Refuses the.releases the.another_waits_between }
     ensures taken_and_released { Allows the.releases the.taken_and_released }
+    ensures taken_closed_and_released { Allows the.releases the.taken_closed_and_released }
 {}
 
 /// And there it has to stand.
 pub fn taken_back_refuses()
     ensures law { IsLawOfAll the.taken_back }
     ensures taken_and_not_released { Refuses the.taken_back the.taken_and_not_released }
+    ensures taken_and_closed { Refuses the.taken_back the.taken_and_closed }
+    ensures another_waits_between { Refuses the.taken_back the.another_waits_between }
     ensures taken_and_released { Allows the.taken_back the.taken_and_released }
+    ensures taken_closed_and_released { Allows the.taken_back the.taken_closed_and_released }
 {}
 
-/// Who waits is owned by the front end, and waits once.
+/// Who waits is owned by the front end, in an odd epoch, and is not in the line yet.
 pub fn joins_refuses()
     ensures law { IsLawOfAll the.joins }
     ensures stranger_waits { Refuses the.joins the.stranger_waits }
     ensures waits_twice { Refuses the.joins the.waits_twice }
-    ensures waits_once_more { Refuses the.joins the.waits_once_more }
+    ensures waits_in_an_even_epoch { Refuses the.joins the.waits_in_an_even_epoch }
     ensures waits_once { Allows the.joins the.waits_once }
+    ensures waits_once_more { Allows the.joins the.waits_once_more }
 {}
 
 /// Somebody is in the line only at a full room.
