@@ -283,6 +283,7 @@ def sound():
         ("a message needs no owner", "sent 1 n1 n2 00\n"), ("a packet that comes twice", "sent 1 c1 front 00\ngot 1\ngot 1\n"),
         ("a node is closed without an event", "closed n2\n"), ("drains that close nobody", "event 1 drain 70\nevent 1 drain 1\n"),
         ("requests stay at a closed node", f"{FIRST}1 1 -\nclosed n1\nassigned 1 2 later /b 1 - 1 0\n{SECOND}2 2 -\n"),
+        ("a node is closed before a release", f"{FIRST}1 1 -\ntook front 1 3\nclosed n1\nreleased 1\n"),
         ("a response that nobody asked for", "served front 1 1 200 5 own\n"), ("marks of a settle anywhere", "settled 4\nunsettled 3 18446744073709551615\n"),
     ):
         yield what, f"{HEADING}\n{records}", f"records {records.count(chr(10))}"
