@@ -1,7 +1,7 @@
 -- What was said of a packet stays so while the front end and the nodes go on.
 use Rattle.std.proofs.Common.{◌≡◌, ◌⊎◌, ℕ, ◌≤◌, List, Option, Some, None, inl, inr, ⊎_elim, sym, ◌∙◌, arith}
 use Rattle.lard_law_view.specs.Prelude.{BackRow, Front, FrontRow, Kind, Letter, Node, NodePart, Part, Place}
-use Rattle.lard_law_connections.specs.Places.{FrontSaid, HasEnded, Head, IsDecided, IsLeft, IsOffered, IsOver, IsPast, LetterMay, MaySay, NodeSaid, Offers}
+use Rattle.lard_law_connections.specs.Places.{FrontSaid, HasEnded, Head, IsDecided, IsLeft, IsOffered, IsOver, IsPast, LetterMay, MaySay, NodeSaid, Offers, OtherSaid}
 use Rattle.lard_history.proofs.Each.{Each, Each-weaker}
 use Rattle.lard_message.specs.declared.kind.Kind.TheVariants as kind
 
@@ -75,9 +75,14 @@ node_said-grows o r e kind.Taken g h = decided-grows e o r g h
 node_said-grows o r e kind.Ended g h = over-grows e o r g h
 node_said-grows o r e _ g h = tt
 
+other_said-grows : (o r : Option BackRow) (e : ℕ) (k : Kind) → BackGrows o r → OtherSaid o e k → OtherSaid r e k
+other_said-grows o r e kind.Fetch g h = decided-grows e o r g h
+other_said-grows o r e _ g h = tt
+
 pub may_say-grows : (p q : Part) (from to : Place) (h : Option Head) → Grows p q → MaySay p from to h → MaySay q from to h
 may_say-grows p q Front (Node n) (Some h) g m = front_said-grows p q n h.epoch h.kind g m
 may_say-grows p q (Node n) Front (Some h) g m = node_said-grows (p.nodes n).row (q.nodes n).row h.epoch h.kind (g.nodes n) m
+may_say-grows p q (Node n) (Node k) (Some h) g m = other_said-grows (p.nodes n).row (q.nodes n).row h.epoch h.kind (g.nodes n) m
 may_say-grows p q _ _ _ g m = tt
 
 pub letters-grow : (p q : Part) → Grows p q → (ls : List Letter) → Each (LetterMay p) ls → Each (LetterMay q) ls

@@ -1,16 +1,19 @@
 -- The law of places: each rule keeps it, so it holds of each connection in every run.
-use Rattle.std.proofs.Common.{ℕ, List, [], ◌∷◌, refl}
+use Rattle.std.proofs.Common.{ℕ, List, [], ◌∷◌, refl, subst, sym}
 use Rattle.lard_law_view.specs.Prelude.{Client, ClientRules, Completed, Conn, Event, Front, FrontRules, IsNodeEnv, MayRestOn, Move, Node, NodeEnv, NodeGets, Place, Rec, Row, Rules, Seen, Setting, client_injects, client_opens, client_rule, content_said, event_seen, nothing_said, packet_seen, stands}
 use Rattle.lard_law_view.proofs.EachClient.{client_seen, each-client, of-client}
 use Rattle.lard_law_view.proofs.EachFront.{each-front, of-front}
 use Rattle.lard_base.specs.declared.event.Event.TheVariants as event
 use Rattle.lard_law_view.proofs.NodeHeads.{of-aside, of-heads}
+use Rattle.lard_law_connections.specs.Places.{MaySay}
 use Rattle.lard_law_connections.proofs.PlacesClients.{client-owes}
-use Rattle.lard_law_connections.proofs.PlacesFront.{IsQuiet}
+use Rattle.lard_law_connections.proofs.PlacesFront.{IsQuiet, Tells}
 use Rattle.lard_law_connections.proofs.PlacesFrontMessages.{gets-owe}
+use Rattle.lard_law_connections.proofs.PlacesHeads.{spelled-some}
 use Rattle.lard_law_connections.proofs.PlacesNode.{plain-turned, stands-owes}
 use Rattle.lard_law_connections.proofs.PlacesNodeEnds.{rule-owes}
 use Rattle.lard_law_connections.proofs.PlacesTurns.{IsPlaced, Owes}
+use Rattle.lard_history.proofs.Each.{Each}
 use Rattle.lard_journal.specs.declared.rec.Rec.TheVariants as rec
 use Rattle.lard_law_view.proofs.EachNode.{Answers, Aside, Brings, NodeComes, Queues, aside_said, aside_seen, each-node, node_goes}
 use Rattle.lard_rules.proofs.NodeCases.{IsInItsEpoch}
@@ -63,6 +66,10 @@ module _ (k : Setting) (Given : Conn → Type 0) where
       record { heads = o.heads; same = o.same; rows = (tt, o.rows); sits = o.sits; grows = o.grows; letters = o.letters }
   does-owe x n epoch env heads g is at comes m h = rule-owes k x heads (heads-quiet x n epoch heads g comes) h m.sound n epoch env is g at comes
 
+  -- a content says nothing of where it is
+  content-tells : (x : Conn) (n to epoch r : ℕ) (path : List ℕ) → Each (Tells x.part (Node n)) (content_said k n to x.c epoch r path).messages
+  content-tells x n to epoch r path = (subst (λ h. MaySay x.part (Node n) (Node to) h) (sym (spelled-some _)) tt, tt)
+
   aside-owes : (x : Conn) (n : ℕ) (a : Aside) → Owing x (stands x (Node n) (aside_seen n a) (aside_said k n x.c a))
   aside-owes x n a m h = go a where
     quiet : IsQuiet x (aside_seen n a)
@@ -70,12 +77,12 @@ module _ (k : Setting) (Given : Conn → Type 0) where
 
     go : (b : Aside) → Owes x (stands x (Node n) (aside_seen n a) (aside_said k n x.c b))
     go (Answers from epoch r path file bytes) =
-        stands-owes x _ quiet h (Node n) _ (plain-turned x _ quiet (Node n) [] (content_said k n from x.c epoch r path).messages tt (tt, tt)) (tt, tt)
+        stands-owes x _ quiet h (Node n) _ (plain-turned x _ quiet (Node n) [] (content_said k n from x.c epoch r path).messages tt (tt, tt)) (content-tells x n from epoch r path)
     go (Queues from epoch r path file bytes) = stands-owes x _ quiet h (Node n) _
         (plain-turned x _ quiet (Node n) (rec.Queued n from x.c r path ∷ []) [] (tt, tt) tt) tt
     go (Brings from epoch r path) =
         stands-owes x _ quiet h (Node n) _
-        (plain-turned x _ quiet (Node n) (rec.Read n from x.c r path ∷ []) (content_said k n from x.c epoch r path).messages (tt, tt) (tt, tt)) (tt, tt)
+        (plain-turned x _ quiet (Node n) (rec.Read n from x.c r path ∷ []) (content_said k n from x.c epoch r path).messages (tt, tt) (tt, tt)) (content-tells x n from epoch r path)
 
   pub owing : Rules k Owing
   owing = record {

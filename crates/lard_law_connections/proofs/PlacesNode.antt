@@ -1,7 +1,7 @@
 -- What a turn of a node owes.
 use Rattle.std.proofs.Common.{◌≡◌, ℕ, List, [], ◌∷◌, ◌++◌, Option, Some, None, inl, inr, refl, sym, ap, ◌∙◌, subst, arith}
 use Rattle.lard_law_view.specs.Prelude.{Asked, BackConn, BackRow, Client, Conn, Ending, Front, IsEarlyAway, IsMachine, Node, NodeEnv, NodePart, Part, Place, Rec, Seen, Turn, TurnSaid, Want, Work, all_sent, asked_sent, by_node, ended_sent, gave_by, kept_after, named_records, node_does, node_put_back, nothing_said, stands, tale_at, turn_by, wants_sent, with_node}
-use Rattle.lard_law_connections.specs.Places.{IsEven, IsOver, MaySay, Owning, Owns, Sits, owning}
+use Rattle.lard_law_connections.specs.Places.{IsDecided, IsEven, IsOver, MaySay, Owning, Owns, Sits, owning}
 use Rattle.lard_law_connections.proofs.PlacesFront.{IsQuiet, Tells, turn-letters}
 use Rattle.lard_law_connections.proofs.PlacesGrowing.{BackGrows, back-still, front-still, grows-still}
 use Rattle.lard_law_connections.proofs.PlacesHeads.{spelled-head, spelled-some}
@@ -91,13 +91,20 @@ module _ (x : Conn) (heads : List Seen) (quiet : IsQuiet x heads) (n : ℕ) (env
   ask-tells q None = tt
   ask-tells q (Some a) = (subst (λ h. MaySay q (Node n) Front h) (sym (spelled-some _)) tt, tt)
 
-  want-tells : (q : Part) (ws : List Want) → Each (Tells q (Node n)) (wants_sent env ws)
-  want-tells q [] = tt
-  want-tells q (want ∷ ws) = (tt, want-tells q ws)
+  want-tells : (q : Part) (ws : List Want) → IsDecided env.epoch (q.nodes n).row → Each (Tells q (Node n)) (wants_sent env ws)
+  want-tells q [] decided = tt
+  want-tells q (want ∷ ws) decided = (
+    subst (λ h. MaySay q (Node n) (Node want.node) h) (sym (spelled-head _ (omega (arith, can.early)))) decided,
+    want-tells q ws decided,
+  )
 
-  all-tells : (q : Part) (before : List (Place × List ℕ)) (k : Work) → Each (Tells q (Node n)) before → Each (Tells q (Node n)) (all_sent env before k)
-  all-tells q before k h = Each-append (Tells q (Node n)) (before ++ asked_sent env k.asked) (wants_sent env k.wants)
-      (Each-append (Tells q (Node n)) before (asked_sent env k.asked) h (ask-tells q k.asked)) (want-tells q k.wants)
+  all-tells : (q : Part) (before : List (Place × List ℕ)) (k : Work) → IsDecided env.epoch (q.nodes n).row → Each (Tells q (Node n)) before → Each (Tells q (Node n)) (all_sent env before k)
+  all-tells q before k decided h = Each-append (Tells q (Node n)) (before ++ asked_sent env k.asked) (wants_sent env k.wants)
+      (Each-append (Tells q (Node n)) before (asked_sent env k.asked) h (ask-tells q k.asked)) (want-tells q k.wants decided)
+
+  -- the node that is put back in this epoch decided it
+  put-decided : (q : NodePart) (st : BackConn) → q.row ≡ Some (record { stage = st; epoch = record { 0 = env.epoch } }) → IsDecided env.epoch ((with_node x.part n q).nodes n).row
+  put-decided q st row = subst (λ (r : NodePart). IsDecided env.epoch r.row) (sym (put-same x.part.nodes n q)) (subst (IsDecided env.epoch) (sym row) (omega arith))
 
   -- the row as it is put back
   abbrev put_row : BackConn → BackRow
@@ -120,7 +127,7 @@ module _ (x : Conn) (heads : List Seen) (quiet : IsQuiet x heads) (n : ℕ) (env
         then = then;
       })
       (can.sits u q (back.Here b) refl mine epoch) (can.grows (back.Here b))
-      (Each-append (Tells (with_node x.part n q) (Node n)) msgs [] (all-tells (with_node x.part n q) before k (tells q (back.Here b) refl)) tt)
+      (Each-append (Tells (with_node x.part n q) (Node n)) msgs [] (all-tells (with_node x.part n q) before k (put-decided q (back.Here b) refl) (tells q (back.Here b) refl)) tt)
   rests-owe part before k (ending.Over last, turn) u mine epoch notes then to machines tells =
       let q : NodePart = kept_after env part k (ending.Over last) in
       let p : Part = with_node x.part n q in
@@ -136,7 +143,7 @@ module _ (x : Conn) (heads : List Seen) (quiet : IsQuiet x heads) (n : ℕ) (env
         then = ap (λ (o : Owning). after_all o (gave_by env (ending.Over last))) then;
       })
       (can.sits v q back.Ended refl refl epoch) (can.grows back.Ended)
-      (Each-append (Tells p (Node n)) msgs end (all-tells p before k (tells q back.Ended refl)) (
+      (Each-append (Tells p (Node n)) msgs end (all-tells p before k (put-decided q back.Ended refl) (tells q back.Ended refl)) (
         subst (λ h. MaySay p (Node n) Front h) (sym (spelled-head _ (omega (arith, can.early))))
             (subst (λ (r : NodePart). IsOver env.epoch r.row) (sym (put-same x.part.nodes n q)) (omega arith, λ same. tt)),
         tt,

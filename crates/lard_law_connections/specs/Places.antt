@@ -146,9 +146,15 @@ NodeSaid row e kind.Taken = IsDecided e row
 NodeSaid row e kind.Ended = IsOver e row
 NodeSaid row e _ = Unit {0}
 
+-- and once a node sent it to another one
+abbrev pub OtherSaid : Option BackRow → ℕ → Kind → Type 0
+OtherSaid row e kind.Fetch = IsDecided e row
+OtherSaid row e _ = Unit {0}
+
 abbrev pub MaySay : Part → Place → Place → Option Head → Type 0
 MaySay p Front (Node n) (Some h) = FrontSaid p n h.epoch h.kind
 MaySay p (Node n) Front (Some h) = NodeSaid (p.nodes n).row h.epoch h.kind
+MaySay p (Node n) (Node m) (Some h) = OtherSaid (p.nodes n).row h.epoch h.kind
 MaySay p _ _ _ = Unit {0}
 
 -- whatever comes of a packet, whenever it comes
