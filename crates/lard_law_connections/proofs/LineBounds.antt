@@ -52,7 +52,7 @@ each-before : (P : Rec → Type 0) (xs ys : List Rec) → Each P (xs ++ ys) → 
 each-before P [] ys e = tt
 each-before P (x ∷ xs) ys e = (e.0, each-before P xs ys e.1)
 
-may-behind : (may : List Rec → Rec → Type 0) (past xs ys : List Rec) → EachMay may past (xs ++ ys) → EachMay may (past ++ xs) ys
+pub may-behind : (may : List Rec → Rec → Type 0) (past xs ys : List Rec) → EachMay may past (xs ++ ys) → EachMay may (past ++ xs) ys
 may-behind may past [] ys e = subst (λ (zs : List Rec). EachMay may zs ys) (sym (append-nil past)) e
 may-behind may past (x ∷ xs) ys e = subst (λ (zs : List Rec). EachMay may zs ys) (append_assoc past (x ∷ []) xs) (may-behind may (past ++ x ∷ []) xs ys e.1)
 

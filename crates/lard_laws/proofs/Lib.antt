@@ -128,6 +128,10 @@ pub mod TagsFronts
 pub mod TagsGoing
 pub mod TagsNodes
 pub mod TagsRuns
+pub mod PastChoices
+pub mod PastClosed
+pub mod PastMoves
+pub mod PastRuns
 pub mod OriginsFetches
 pub mod OriginsJobs
 pub mod OriginsKnown

@@ -95,7 +95,7 @@ has-row : (r : Rec) (rs : List Rec) → Has r rs → Has (Row r) (map Row rs)
 has-row r [] h = absurd h
 has-row r (y ∷ ys) h = ⊎_elim (λ (e : y ≡ r). inl (ap (λ (z : Rec). Row z) e)) (λ (k : Has r ys). inr (has-row r ys k)) h
 
-noted-row : (x : Conn) (v : Move) (r : Rec) → Has r v.said.notes → Has (Row r) (map Row (rows_of x v))
+pub noted-row : (x : Conn) (v : Move) (r : Rec) → Has r v.said.notes → Has (Row r) (map Row (rows_of x v))
 noted-row x v r h =
     let S : List Rec = map (sending v.place) v.said.segments in
     let M : List Rec = map (sending v.place) v.said.messages in

@@ -23,6 +23,8 @@ pub mod BackingRuns
 pub mod Sizes
 pub mod TagsLaws
 pub mod Tags
+pub mod Past
+pub mod PastLaws
 pub mod OriginsLaws
 pub mod Origins
 pub mod Homes

@@ -17,6 +17,7 @@ ghost use Rattle.lard_laws.specs.Formed.{RecordsHavePathsAndBytes};
 ghost use Rattle.lard_laws.specs.HomesLaws.{ConnectionsHaveOneHome};
 ghost use Rattle.lard_laws.specs.Lawful.{JournalsAreLawful};
 ghost use Rattle.lard_laws.specs.OriginsLaws.{JobsComeFromHome};
+ghost use Rattle.lard_laws.specs.PastLaws.{ConnectionsGoToNew, EachEndIsOfItsStay, EachEpochIsOfOneNode, FirstsAreOpen, PastIsClosed};
 ghost use Rattle.lard_laws.specs.Quiet.{JournalsComplete};
 ghost use Rattle.lard_laws.specs.QuietRests.{RestingIsComplete};
 ghost use Rattle.lard_laws.specs.QuietStill.{QuietIsCompleteOrElse};
@@ -232,6 +233,22 @@ pub fn jobs_come_from_home()
 /// the front end offered it, no other than that one ever does, and it knows of the epoch of the Offer alone.
 pub fn one_node_has_a_connection()
     ensures { ConnectionsHaveOneHome }
+{}
+
+/// In every run of the cluster's machine, with a configuration that may be used, and also of connections that the schedule touched. A
+/// first assignment is to a node that was not closed. A node that decided a connection is closed, but where the connection is there,
+/// on its way there, or over. So the node to which a connection goes knows nothing of it, until it decides just this epoch.
+pub fn connections_go_to_new_nodes()
+    ensures firsts { FirstsAreOpen }
+    ensures past { PastIsClosed }
+    ensures goes { ConnectionsGoToNew }
+{}
+
+/// In every run of the cluster's machine, and also of connections that the schedule touched: no two nodes decide a connection in the
+/// same epoch; and a node tells the end of a stay only where the connection is there in its epoch, or was closed by that end.
+pub fn an_epoch_is_of_one_node()
+    ensures epochs { EachEpochIsOfOneNode }
+    ensures ends { EachEndIsOfItsStay }
 {}
 
 /// In every run of the cluster's machine, of each connection that the schedule did not touch by a packet of its own: a client
