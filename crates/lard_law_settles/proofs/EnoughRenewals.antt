@@ -6,8 +6,8 @@ use Rattle.lard_base.specs.declared.place.TimerKind.TheVariants as kind
 use Rattle.lard_bound.specs.Seats.{seat_by, seat_in, seat_of}
 use Rattle.lard_law_connections.specs.Awaits.{NodeComes, RowComes, StayComes}
 use Rattle.lard_law_connections.proofs.AwaitsRuns.{connections-await}
-use Rattle.lard_laws.specs.Homes.{KnowsOf, NoOtherKnows, RowHomes, StageHomes}
-use Rattle.lard_laws.proofs.HomesRuns.{connections-have-one-home}
+use Rattle.lard_laws.proofs.PastRuns.{each-end-is-of-its-stay}
+use Rattle.lard_laws.specs.Past.{IsOfStay, RowTells, stage_whereabouts, whereabouts}
 use Rattle.lard_law_connections.specs.Kept.{AsksFor, FrontRowKeeps, FrontStageKeeps, HereKeeps, IsFetchFromOther, NodeRowKeeps, NodeStageKeeps}
 use Rattle.lard_law_connections.specs.KeptLaws.{AnyNode}
 use Rattle.lard_law_connections.proofs.KeptRuns.{connections-are-kept}
@@ -67,34 +67,26 @@ module _ (x : Conn) (placed : IsPlaced x) where
 
 -- who tells an end is where the front end gave it, or the front end has the last numbers
 module _ (p : Part) (n e : ℕ) (is : (p.nodes n).row ≡ Some (record { stage = back.Ended; epoch = record { 0 = e } })) where
-  knows : (p.nodes n).row ≡ None → IsTold (seat_of p) n e
-  knows none = absurd (let no : None ≡ Some (record { stage = back.Ended; epoch = record { 0 = e } }) = sym none ∙ is in cc)
+  given-to : (told : Bool) (m d : ℕ) (row : FrontRow) → p.front.row ≡ Some row → IsWith told m d row.stage → (m ≡ n) × (d ≡ e) → IsTold (seat_of p) n e
+  given-to told m d row at with_ its =
+      let with_it : IsWith told n e row.stage = subst (λ (i : ℕ). IsWith told i e row.stage) its.0 (subst (λ (i : ℕ). IsWith told m i row.stage) its.1 with_) in
+      Left told (seat-with p n e told row at with_it ∙ away-ended told n e (front_rest p.front.rest).count (p.nodes n) is)
 
-  given-to : (told : Bool) (m d : ℕ) (row : FrontRow) → p.front.row ≡ Some row → IsWith told m d row.stage → NoOtherKnows m p.nodes → KnowsOf d (p.nodes m).row → IsTold (seat_of p) n e
-  given-to told m d row at with_ others its = go (m == n) refl where
-    go : (t : Bool) → (m == n) ≡ t → IsTold (seat_of p) n e
-    go false other = knows (others n (λ same. let yes : false ≡ true = sym other ∙ eq-eqb m n (sym same) in cc))
-    go true t =
-        let node : m ≡ n = eqb-true m n t in
-        let epoch : e ≡ d = subst (KnowsOf d) is (subst (λ (i : ℕ). KnowsOf d (p.nodes i).row) node its) in
-        let with_it : IsWith told n e row.stage = subst (λ (i : ℕ). IsWith told i e row.stage) node (subst (λ (i : ℕ). IsWith told m i row.stage) (sym epoch) with_) in
-        Left told (seat-with p n e told row at with_it ∙ away-ended told n e (front_rest p.front.rest).count (p.nodes n) is)
-
-  at-stage : (row : FrontRow) → p.front.row ≡ Some row → (c : FrontConn) → row.stage ≡ c → StageHomes p.nodes row.ended_by c → IsTold (seat_of p) n e
+  at-stage : (row : FrontRow) → p.front.row ≡ Some row → (c : FrontConn) → row.stage ≡ c → IsOfStay n e (stage_whereabouts row.ended_by c) → IsTold (seat_of p) n e
   unfolding seat_of
-  at-stage row at (stage.Held b) is_ h = knows (h.0 n)
-  at-stage row at (stage.Waiting b) is_ h = knows (h.0 n)
+  at-stage row at (stage.Held b) is_ h = absurd h
+  at-stage row at (stage.Waiting b) is_ h = absurd h
   at-stage row at stage.Lent is_ h = absurd h
-  at-stage row at (stage.Offering m d) is_ h = given-to false m d.0 row at is_ h.0 h.1
-  at-stage row at (stage.Moved m d) is_ h = given-to true m d.0 row at is_ h.0 h.1
+  at-stage row at (stage.Offering m d) is_ h = given-to false m d.0 row at is_ h
+  at-stage row at (stage.Moved m d) is_ h = given-to true m d.0 row at is_ h
   at-stage row at (stage.Closed last) is_ h = Known last (ap (seat_by p.front p.nodes) at ∙ ap (seat_in p.front p.nodes) is_)
 
-  ends-in : (o : Option FrontRow) → p.front.row ≡ o → RowHomes p.nodes o → IsTold (seat_of p) n e
-  ends-in None at h = knows (h n)
+  ends-in : (o : Option FrontRow) → p.front.row ≡ o → IsOfStay n e (whereabouts o) → IsTold (seat_of p) n e
+  ends-in None at h = absurd h
   ends-in (Some row) at h = at-stage row at row.stage refl h
 
-  pub ends-are : RowHomes p.nodes p.front.row → IsTold (seat_of p) n e
-  ends-are h = ends-in p.front.row refl h
+  pub ends-are : RowTells n (p.nodes n).row (whereabouts p.front.row) → IsTold (seat_of p) n e
+  ends-are h = ends-in p.front.row refl (subst (λ (o : Option BackRow). RowTells n o (whereabouts p.front.row)) is h)
 
 -- ---- what the front end keeps
 
@@ -209,7 +201,7 @@ module _ (config : Config) (files : List (List ℕ × List ℕ)) (m : Machine) (
     front = subst (λ (c : ℕ). RowKept c (conn m q).part.front.kept (conn m q).part.front.row) (sym conn-is) front-is;
     nodes = λ n. subst (λ (c : ℕ). BackKept (file_at files) c ((conn m q).part.nodes n) ((conn m q).part.nodes n).row) (sym conn-is) (nodes-are n);
     homes = homes-are (conn m q) (each-placed config files m reached q);
-    ends = λ n e is. ends-are (conn m q).part n e is (connections-have-one-home config files m reached q);
+    ends = λ n e is. ends-are (conn m q).part n e is (each-end-is-of-its-stay config files m reached q n);
   }
 
   -- a connection that a node has, as the front end knows

@@ -6,7 +6,7 @@ use Rattle.lard_bound.specs.Units.{Whole}
 use Rattle.lard_laws.specs.Acks.{AcksWhatWasTaken}
 use Rattle.lard_law_connections.specs.BytesAgreement.{ConnAgrees, IsTruthful}
 use Rattle.lard_laws.specs.EndedEnds.{EndsAreTrue}
-use Rattle.lard_laws.specs.Homes.{HasOneHome}
+use Rattle.lard_laws.specs.Past.{EndsAreOfStays}
 use Rattle.lard_law_connections.specs.Places.{EndedBefore, HasEarlyEpoch, IsRowEarly, IsStageEarly, Owning, Sits, SitsAt, StageSits, owning}
 use Rattle.lard_laws.proofs.RecordsFronts.{RestKeeps}
 use Rattle.lard_laws.proofs.TagsAgree.{Agreed}
@@ -34,7 +34,7 @@ stage-sits e o nodes (stage.Moved n d) h early = let same : d.0 ≡ e = h.1 in o
 stage-sits e o nodes (stage.Closed last) h early = tt
 
 module _ (N : ℕ → Type 0) (files : FilesAt) (w : Whole) (x : Conn) (sits : SitsAt x) (early : HasEarlyEpoch x) (truth : IsTruthful files x) (acts : AcksWhatWasTaken x) (told : EndsAreTrue files x) (keeps : RestKeeps (front_rest x.part.front.rest))
-    (homes : HasOneHome x) (agreed : Agreed N files x) (known : IsKnownElsewhere w x) where
+    (ends : EndsAreOfStays x) (agreed : Agreed N files x) (known : IsKnownElsewhere w x) where
   row-sits : (row : FrontRow) → x.part.front.row ≡ Some row → StageSits row.epoch.0 (owning (tale_at x)) x.part.nodes row.stage × EndedBefore row.epoch.0 row.ended_by
   row-sits row is = subst (Sits (owning (tale_at x)) x.part.nodes) is sits
 
@@ -78,7 +78,7 @@ module _ (N : ℕ → Type 0) (files : FilesAt) (w : Whole) (x : Conn) (sits : S
     unopened = unopened;
     stages = λ row is. stage-sits row.epoch.0 (owning (tale_at x)) x.part.nodes row.stage (row-sits row is).0 (row-early row is);
     epochs = ended-small;
-    ended = ended-given x homes;
+    ended = ended-given x ends;
     tags = tag-fits;
     asks = asks-given N files x agreed;
     seats = seat-known;

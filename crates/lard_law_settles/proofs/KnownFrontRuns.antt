@@ -10,7 +10,7 @@ use Rattle.lard_law_connections.specs.BytesAgreement.{IsOpen, IsTruthful}
 use Rattle.lard_law_connections.proofs.BytesClientMoves.{open-at}
 use Rattle.lard_law_connections.proofs.BytesRuns.{states-truthful}
 use Rattle.lard_laws.proofs.EndedRuns.{connections-were-closed}
-use Rattle.lard_laws.proofs.HomesRuns.{connections-have-one-home}
+use Rattle.lard_laws.proofs.PastRuns.{each-end-is-of-its-stay}
 use Rattle.lard_law_connections.proofs.PlacesRuns.{each-sits}
 use Rattle.lard_laws.proofs.RecordsFronts.{RestKeeps}
 use Rattle.lard_laws.proofs.RecordsHolding.{Holds}
@@ -60,5 +60,5 @@ module _ (config : Config) (files : List (List ℕ × List ℕ)) (checked : conf
       → ((st : Station) (b : ControlBlock) (count : ℕ) → x.part.station ≡ Some st → seat_of x.part ≡ Waiting b count → AtSeat w st (Waiting b count)) → FrontGiven (file_at files) w x
   each-front holds w held waiting =
       front-given (IsNode config.nodes) (file_at files) w x (each-sits config files m reached q).0 (each-sits config files m reached q).1 truth (connections-ack config files (usable config checked).stream m reached q free)
-      (connections-were-closed config files (usable config checked).stream m reached q free) (rest-keeps m q holds) (connections-have-one-home config files m reached q) (each-agrees config files checked m reached q free)
+      (connections-were-closed config files (usable config checked).stream m reached q free) (rest-keeps m q holds) (each-end-is-of-its-stay config files m reached q) (each-agrees config files checked m reached q free)
       (record { held = held; waiting = waiting; words = λ st bytes s there was read. each-word st there bytes s was read })

@@ -11,12 +11,12 @@ use Rattle.lard_laws.specs.BackingState.{LetterFor, SaysFor}
 use Rattle.lard_laws.proofs.BackingRules.{each-backed}
 use Rattle.lard_law_connections.specs.BytesAgreement.{ConnAgrees, IsInner, IsConnUnopened}
 use Rattle.lard_law_connections.proofs.BytesRuns.{states-truthful}
-use Rattle.lard_laws.specs.Homes.{KnowsOf, RowHomes, StageHomes}
-use Rattle.lard_laws.proofs.HomesRuns.{connections-have-one-home}
+use Rattle.lard_laws.proofs.PastClosed.{connections-go-to-new}
+use Rattle.lard_laws.specs.Past.{GoesToNew, IsNewTo, NewAt, stage_whereabouts, whereabouts}
 use Rattle.lard_law_connections.specs.Kept.{HereKeeps, NodeRowKeeps, NodeStageKeeps}
 use Rattle.lard_law_connections.specs.KeptLaws.{AnyNode}
 use Rattle.lard_law_connections.proofs.KeptRuns.{connections-are-kept}
-use Rattle.lard_law_connections.specs.Places.{owning}
+use Rattle.lard_law_connections.specs.Places.{IsPast, Sits, owning}
 use Rattle.lard_law_connections.proofs.PlacesFrontMessages.{came-says}
 use Rattle.lard_law_connections.proofs.PlacesFrontRules.{has-each}
 use Rattle.lard_law_connections.proofs.PlacesRuns.{each-placed}
@@ -71,7 +71,7 @@ module _ (N : ℕ → Type 0) (x : Conn) (files : FilesAt) (c n e count : ℕ) w
     epoch : d ≡ e
     none : (x.part.nodes m).row ≡ None
 
-  module _ (told : Bool) (m d cnt : ℕ) (keeps : NodeRowKeeps N files c m (x.part.nodes m) (x.part.nodes m).row) (knows : KnowsOf d (x.part.nodes m).row) where
+  module _ (told : Bool) (m d cnt : ℕ) (keeps : NodeRowKeeps N files c m (x.part.nodes m) (x.part.nodes m).row) (knows : IsNewTo d (x.part.nodes m).row) where
     abbrev q : NodePart
     q = x.part.nodes m
 
@@ -81,7 +81,7 @@ module _ (N : ℕ → Type 0) (x : Conn) (files : FilesAt) (c n e count : ℕ) w
     there row at back.Ended is eq = absurd (let bad : Gone told m d ≡ Offered n e count = eq in cc)
     there row at back.Gone is eq = absurd (let bad : Gone told m d ≡ Offered n e count = eq in cc)
 
-    decided : (o : Option BackRow) → q.row ≡ o → KnowsOf d o → seat_decided told m d cnt q o ≡ Offered n e count → IsAway told m d
+    decided : (o : Option BackRow) → q.row ≡ o → IsNewTo d o → seat_decided told m d cnt q o ≡ Offered n e count → IsAway told m d
     decided None at k eq = record { node = ap node_in eq; epoch = ap epoch_in eq; none = at }
     decided (Some row) at k eq = go (row.epoch.0 == d) refl eq where
       go : (b : Bool) → (row.epoch.0 == d) ≡ b → cond b (seat_there told m d cnt q row.stage) (Offered m d cnt) ≡ Offered n e count → IsAway told m d
@@ -96,29 +96,29 @@ module _ (N : ℕ → Type 0) (x : Conn) (files : FilesAt) (c n e count : ℕ) w
     pub is_there : is_row_at n e x.part.front.row ≡ true
     pub none : (x.part.nodes n).row ≡ None
 
-  module _ (keeps : (m : ℕ) → NodeRowKeeps N files c m (x.part.nodes m) (x.part.nodes m).row) (homes : RowHomes x.part.nodes x.part.front.row) where
+  module _ (keeps : (m : ℕ) → NodeRowKeeps N files c m (x.part.nodes m) (x.part.nodes m).row) (goes : GoesToNew x) where
     same-test : (m d : ℕ) → m ≡ n → d ≡ e → (m == n && d == e) ≡ true
     same-test m d a b = and_from (m == n) (d == e) (eq-eqb m n a) (eq-eqb d e b)
 
-    by-stage : (row : FrontRow) → x.part.front.row ≡ Some row → (s : FrontConn) → row.stage ≡ s → StageHomes x.part.nodes row.ended_by s → seat_in x.part.front x.part.nodes s ≡ Offered n e count → IsOfferedTo
+    by-stage : (row : FrontRow) → x.part.front.row ≡ Some row → (s : FrontConn) → row.stage ≡ s → NewAt x.part.nodes (stage_whereabouts row.ended_by s) → seat_in x.part.front x.part.nodes s ≡ Offered n e count → IsOfferedTo
     by-stage row at (stage.Held b) is h eq = absurd (let bad : Held b (front_rest x.part.front.rest).count ≡ Offered n e count = eq in cc)
     by-stage row at (stage.Waiting b) is h eq = absurd (let bad : Waiting b (front_rest x.part.front.rest).count ≡ Offered n e count = eq in cc)
-    by-stage row at stage.Lent is h eq = absurd h
+    by-stage row at stage.Lent is h eq = absurd (let bad : Unborn ≡ Offered n e count = eq in cc)
     by-stage row at (stage.Offering m d) is h eq =
-        let a = away false m d.0 (front_rest x.part.front.rest).count (keeps m) h.1 eq in record {
+        let a = away false m d.0 (front_rest x.part.front.rest).count (keeps m) h eq in record {
           is_there = ap (is_row_at n e) at ∙ ap (is_with n e) is ∙ same-test m d.0 a.node a.epoch;
           none = subst (λ i. (x.part.nodes i).row ≡ None) a.node a.none;
         }
     by-stage row at (stage.Moved m d) is h eq =
-        let a = away true m d.0 (front_rest x.part.front.rest).count (keeps m) h.1 eq in record {
+        let a = away true m d.0 (front_rest x.part.front.rest).count (keeps m) h eq in record {
           is_there = ap (is_row_at n e) at ∙ ap (is_with n e) is ∙ same-test m d.0 a.node a.epoch;
           none = subst (λ i. (x.part.nodes i).row ≡ None) a.node a.none;
         }
     by-stage row at (stage.Closed last) is h eq = absurd (let bad : Over last ≡ Offered n e count = eq in cc)
 
     pub offered-to : seat_of x.part ≡ Offered n e count → IsOfferedTo
-    offered-to eq = go x.part.front.row refl homes where
-      go : (o : Option FrontRow) → x.part.front.row ≡ o → RowHomes x.part.nodes o → IsOfferedTo
+    offered-to eq = go x.part.front.row refl goes where
+      go : (o : Option FrontRow) → x.part.front.row ≡ o → NewAt x.part.nodes (whereabouts o) → IsOfferedTo
       go None at h = absurd (let bad : Unborn ≡ Offered n e count = sym (seat-none x.part at) ∙ eq in cc)
       go (Some row) at h = by-stage row at row.stage refl h (sym (seat-at x.part row row.stage at refl) ∙ eq)
 
@@ -155,8 +155,9 @@ module _ (config : Config) (files : List (List ℕ × List ℕ)) (small : config
 
     pub held-opened : (n e : ℕ) (b : ControlBlock) → HasIt x n e b → (st : Station) × (x.part.station ≡ Some st)
     held-opened n e b has = by-opened (λ u.
-        let none : (n : ℕ) → (x.part.nodes n).row ≡ None = subst (RowHomes x.part.nodes) u.front (connections-have-one-home config files m reached q) in
-        let bad : ◌≡◌ {A = Option BackRow} None (Some (record { stage = back.Here b; epoch = record { 0 = e } })) = sym (none n) ∙ has in cc)
+        let sits : Sits (owning (tale_at x)) x.part.nodes None = subst (Sits (owning (tale_at x)) x.part.nodes) u.front (each-placed config files m reached q).sits in
+        let past : IsPast 0 (Some (record { stage = back.Here b; epoch = record { 0 = e } })) = subst (IsPast 0) has (sits.1 n) in
+        past.1)
 
     pub fetch-opened : (i n e r : ℕ) (path bytes : List ℕ) → SpellsMessage x.c e (body.Fetch r path) bytes → Was x (Node i) (Node n) bytes → (st : Station) × (x.part.station ≡ Some st)
     fetch-opened i n e r path bytes spells was = by-opened (λ u.
@@ -175,7 +176,7 @@ module _ (config : Config) (files : List (List ℕ × List ℕ)) (small : config
       go (Some s) at h = (s, at)
 
     offered : (n e count : ℕ) → seat_of x.part ≡ Offered n e count → IsOfferedTo AnyNode x (file_at files) x.c n e count
-    offered n e count eq = offered-to AnyNode x (file_at files) x.c n e count (connections-are-kept config files m reached q).nodes (connections-have-one-home config files m reached q) eq
+    offered n e count eq = offered-to AnyNode x (file_at files) x.c n e count (connections-are-kept config files m reached q).nodes (connections-go-to-new config files m checked reached q) eq
 
     pub node-given : ((st : Station) (n e : ℕ) (b : ControlBlock) → x.part.station ≡ Some st → HasIt x n e b → IsTalking st b)
         → ((st : Station) (n e : ℕ) (b : ControlBlock) (segment bytes : List ℕ) (s : Said) → x.part.station ≡ Some st → HasIt x n e b → SpellsMessage x.c e (body.Forward segment) bytes → Was x Front (Node n) bytes

@@ -8,7 +8,7 @@ pub use Rattle.lard_laws.specs.Acks.{OpenActs, StationActs, story_at}
 pub use Rattle.lard_laws.proofs.AcksRuns.{connections-ack}
 use Rattle.lard_law_connections.specs.BytesAgreement.{ConnAgrees, IsOpen}
 use Rattle.lard_law_connections.proofs.BytesRuns.{states-truthful}
-use Rattle.lard_laws.proofs.HomesRuns.{connections-have-one-home}
+use Rattle.lard_laws.proofs.PastRuns.{each-end-is-of-its-stay, each-epoch-is-of-one-node}
 use Rattle.lard_law_connections.specs.KeptLaws.{AnyNode}
 use Rattle.lard_law_connections.proofs.KeptRuns.{connections-are-kept}
 use Rattle.lard_law_connections.proofs.LimitsRuns.{connections-counted}
@@ -80,6 +80,6 @@ module _ (config : Config) (files : List (List ℕ × List ℕ)) (small : config
       let o : IsOpen (file_at files) x truth.talk truth.pend st = subst (ConnAgrees (file_at files) x truth.talk truth.pend) at truth.agrees in
       let kept = connections-are-kept config files m reached q in
       let same : written_on ≡ whole_of (file_at files) truth.talk.w.bytes = ap (whole_of (file_at files)) o.tale.wrote in
-      modest written_on AnyNode (file_at files) x st m.config.nodes (connections-have-one-home config files m reached q) kept
+      modest written_on AnyNode (file_at files) x st m.config.nodes (each-end-is-of-its-stay config files m reached q) (each-epoch-is-of-one-node config files m reached q) kept
       (placing-asks (file_at files) x st truth.talk truth.pend o ((each-guarded config files small m reached q).0 free) kept.front written_on same)
       (each-known free st at).seat

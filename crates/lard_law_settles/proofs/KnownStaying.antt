@@ -4,8 +4,9 @@ use Rattle.std.specs.List.{find}
 use Rattle.std.proofs.lemmas.Bool.{cond_both, eqb-false, eqb-true}
 use Rattle.lard_law_view.specs.Prelude.{BackConn, BackRow, Conn, ControlBlock, Epoch, FilesAt, Final, FrontConn, FrontRow, NodePart, Part, Stay, front_rest, is_under}
 use Rattle.lard_base.specs.declared.place.TimerKind.TheVariants as kind
-use Rattle.lard_bound.specs.Seats.{Here, Offered, Over, SeatNow, Staying, Unborn, seat_away, seat_decided, seat_in, seat_of, seat_there, stay_of, staying_of, tells_end, telling}
-use Rattle.lard_laws.specs.Homes.{HasOneHome, KnowsOf, RowHomes, StageHomes, WasAt}
+use Rattle.lard_bound.specs.Seats as seat
+use Rattle.lard_bound.specs.Seats.{Here, Offered, SeatNow, Staying, Unborn, seat_away, seat_decided, seat_in, seat_of, seat_there, stay_of, staying_of, tells_end, telling}
+use Rattle.lard_laws.specs.Past.{EndsAreOfStays, Over, RowTells, StageTells, stage_whereabouts, whereabouts, whereabouts_of}
 use Rattle.lard_law_connections.specs.Kept.{HereKeeps, NodeRowKeeps}
 use Rattle.lard_law_connections.specs.KeptLaws.{AnyNode}
 use Rattle.lard_laws.proofs.TagsAgree.{Agreed, asks-agree}
@@ -77,41 +78,28 @@ module _ (N : ℕ → Type 0) (files : FilesAt) (x : Conn) (agreed : Agreed N fi
 
 -- ---- a node that tells an end
 
-told-epoch : (row : BackRow) (i : ℕ) → tells_end (Some row) ≡ Some i → row.epoch.0 ≡ i
-told-epoch row i = go row.stage where
-  go : (c : BackConn) → telling c row.epoch.0 ≡ Some i → row.epoch.0 ≡ i
-  go (back.Here b) f = absurd cc
-  go back.Out f = absurd cc
-  go back.Ended f = cc
-  go back.Gone f = absurd cc
-
-module _ (x : Conn) (homes : HasOneHome x) where
-  none-told : (n i : ℕ) → (x.part.nodes n).row ≡ None → tells_end (x.part.nodes n).row ≡ Some i → ⊥
-  none-told n i none told = let bad : None ≡ Some i = sym (ap tells_end none) ∙ told in cc
-
-  by-home : (by : Option Epoch) (n i : ℕ) → WasAt x.part.nodes by → tells_end (x.part.nodes n).row ≡ Some i → by ≡ Some (record { 0 = i })
-  by-home None n i none told = absurd (none-told n i (none n) told)
-  by-home (Some by) n i was told = go (n == was.0) refl where
-    knows : (o : Option BackRow) → KnowsOf by.0 o → tells_end o ≡ Some i → by.0 ≡ i
-    knows None k f = absurd cc
-    knows (Some row) k f = sym k ∙ told-epoch row i f
-
-    go : (t : Bool) → (n == was.0) ≡ t → Some by ≡ Some (record { 0 = i })
-    go true is =
-        let here : KnowsOf by.0 (x.part.nodes n).row = subst (λ (m : ℕ). KnowsOf by.0 (x.part.nodes m).row) (sym (eqb-true n was.0 is)) was.2 in
-        let same : by.0 ≡ i = knows (x.part.nodes n).row here told in λ j. Some (record { 0 = same j })
-    go false is = absurd (none-told n i (was.1 n (eqb-false n was.0 is)) told)
+module _ (x : Conn) (ends : EndsAreOfStays x) where
+  told-by : (n i : ℕ) (by : Option Epoch) (o : Option BackRow) → RowTells n o (Over by) → tells_end o ≡ Some i → by ≡ Some (record { 0 = i })
+  told-by n i by None h told = let bad : None ≡ Some i = told in absurd cc
+  told-by n i by (Some row) h told = go row.stage h told where
+    go : (c : BackConn) → StageTells n row.epoch.0 c (Over by) → telling c row.epoch.0 ≡ Some i → by ≡ Some (record { 0 = i })
+    go (back.Here b) k f = absurd cc
+    go back.Out k f = absurd cc
+    go back.Ended k f = let same : row.epoch.0 ≡ i = cc in k ∙ (λ j. Some (record { 0 = same j }))
+    go back.Gone k f = absurd cc
 
   -- the front end knows of the end that a node tells
-  pub ended-given : (row : FrontRow) (last : Final) (n i : ℕ) → x.part.front.row ≡ Some row → seat_of x.part ≡ Over last → tells_end (x.part.nodes n).row ≡ Some i → row.ended_by ≡ Some (record { 0 = i })
-  ended-given row last n i is seat told = at row.stage (sym (seat-row x.part (Some row) is) ∙ seat) (subst (RowHomes x.part.nodes) is homes) where
-    away : (t : Bool) (m d count : ℕ) → seat_away t m d count (x.part.nodes m) ≡ Over last → ⊥
-    away t m d count = away-cases t m d count (x.part.nodes m) (λ (z : SeatNow). z ≡ Over last → ⊥) (λ f. cc) (λ b f. cc) (λ f. cc)
+  pub ended-given : (row : FrontRow) (last : Final) (n i : ℕ) → x.part.front.row ≡ Some row → seat_of x.part ≡ seat.Over last → tells_end (x.part.nodes n).row ≡ Some i → row.ended_by ≡ Some (record { 0 = i })
+  ended-given row last n i is seat told = at row.stage refl (sym (seat-row x.part (Some row) is) ∙ seat) where
+    away : (t : Bool) (m d count : ℕ) → seat_away t m d count (x.part.nodes m) ≡ seat.Over last → ⊥
+    away t m d count = away-cases t m d count (x.part.nodes m) (λ (z : SeatNow). z ≡ seat.Over last → ⊥) (λ f. cc) (λ b f. cc) (λ f. cc)
 
-    at : (c : FrontConn) → seat_in x.part.front x.part.nodes c ≡ Over last → StageHomes x.part.nodes row.ended_by c → row.ended_by ≡ Some (record { 0 = i })
-    at (stage.Held b) f h = absurd cc
-    at (stage.Waiting b) f h = absurd cc
-    at stage.Lent f h = absurd cc
-    at (stage.Offering m d) f h = absurd (away false m d.0 (front_rest x.part.front.rest).count f)
-    at (stage.Moved m d) f h = absurd (away true m d.0 (front_rest x.part.front.rest).count f)
-    at (stage.Closed final) f h = by-home row.ended_by n i h told
+    at : (c : FrontConn) → row.stage ≡ c → seat_in x.part.front x.part.nodes c ≡ seat.Over last → row.ended_by ≡ Some (record { 0 = i })
+    at (stage.Held b) staged f = absurd cc
+    at (stage.Waiting b) staged f = absurd cc
+    at stage.Lent staged f = absurd cc
+    at (stage.Offering m d) staged f = absurd (away false m d.0 (front_rest x.part.front.rest).count f)
+    at (stage.Moved m d) staged f = absurd (away true m d.0 (front_rest x.part.front.rest).count f)
+    at (stage.Closed final) staged f =
+        let over : whereabouts_of x ≡ Over row.ended_by = ap whereabouts is ∙ ap (stage_whereabouts row.ended_by) staged in
+        told-by n i row.ended_by (x.part.nodes n).row (subst (RowTells n (x.part.nodes n).row) over (ends n)) told

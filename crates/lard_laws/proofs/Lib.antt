@@ -132,14 +132,9 @@ pub mod PastChoices
 pub mod PastClosed
 pub mod PastMoves
 pub mod PastRuns
+pub mod OriginsDisks
 pub mod OriginsFetches
 pub mod OriginsJobs
-pub mod OriginsKnown
-pub mod OriginsNotes
-pub mod OriginsRuns
-pub mod HomesFronts
-pub mod HomesNodes
-pub mod HomesRuns
 pub mod AcksClients
 pub mod AcksFronts
 pub mod AcksGrowing

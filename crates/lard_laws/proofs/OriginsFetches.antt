@@ -3,12 +3,17 @@
 use Rattle.std.proofs.Common.{◌≡◌, ◌≢◌, ℕ, ◌≤◌, nat_eq, true, false, List, [], ◌∷◌, length, Option, Some, None, IfSome, Ok, sym, subst, arith}
 use Rattle.std.proofs.lemmas.Bool.{cond_both}
 use Rattle.std.specs.List.{find}
-use Rattle.lard_law_view.specs.Prelude.{Config, ControlBlock, FilesAt, Has, IsMessage, IsNode, IsReached, Job, Letter, MAX_FILE_BYTES, Machine, Message, Node, NodeState, Packet, SpellsMessage, Stay, Was, config_check, conn, conn_of, content_bytes, file_at, is_from, is_under, letter_of, letters, letters_in, node_at, one_of, tale_at}
+use Rattle.lard_law_view.specs.Prelude.{BackRow, Config, Conn, ControlBlock, FilesAt, Has, IsMessage, IsNode, IsReached, Job, Letter, MAX_FILE_BYTES, Machine, Message, Node, NodeState, Packet, SpellsMessage, Stay, Was, config_check, conn, conn_of, content_bytes, file_at, is_from, is_under, letter_of, letters, letters_in, node_at, one_of, tale_at}
 use Rattle.lard_base.specs.declared.place.TimerKind.TheVariants as kind
-use Rattle.lard_laws.proofs.HomesRuns.{connections-have-one-home}
-use Rattle.lard_laws.specs.Origins.{Knows}
-use Rattle.lard_laws.proofs.OriginsJobs.{jobs-from-home, one-knows}
+use Rattle.lard_laws.proofs.OriginsJobs.{jobs-from-home}
+use Rattle.lard_laws.proofs.PastMoves.{at-node}
+use Rattle.lard_laws.proofs.PastRuns.{others-past}
+use Rattle.lard_laws.specs.Past.{AtNode, whereabouts_of}
 use Rattle.lard_law_connections.proofs.PlacesFrontRules.{has-each}
+use Rattle.lard_law_connections.proofs.PlacesRuns.{each-placed}
+use Rattle.lard_law_connections.proofs.PlacesTurns.{IsPlaced}
+use Rattle.lard_law_connections.proofs.PlacesWithNode.{with-node}
+use Rattle.lard_law_connections.specs.Places.{IsDecided, IsPast}
 use Rattle.lard_laws.proofs.RecordsHolding.{Holds, IsPacket, NodeHolds}
 use Rattle.lard_laws.proofs.RecordsLetters.{is-message}
 use Rattle.lard_laws.proofs.RecordsNamed.{AreNamed, IsNamed}
@@ -17,6 +22,7 @@ use Rattle.lard_laws.proofs.TagsAgree.{IsStaying, goal-there}
 use Rattle.lard_laws.proofs.TagsGoing.{each-goes}
 use Rattle.lard_handoff_back.specs.declared.row.BackConn.TheVariants as back
 use Rattle.lard_history.proofs.Each.{Each, Each-append}
+use Rattle.lard_history.proofs.Seeing.{by_number}
 use Rattle.lard_law_view.proofs.ByteLists.{AreBytes}
 use Rattle.lard_law_view.proofs.ContentRange.{IsContent}
 use Rattle.lard_message.specs.declared.message.Body.TheVariants as body
@@ -47,17 +53,22 @@ file-short files are path = go (files path) (are path) where
   go None h = omega arith
   go (Some bytes) h = h.0.1
 
+-- an epoch that a node is past was not decided there
+past-undecided : (e : ℕ) (o : Option BackRow) → IsPast e o → IsDecided e o → ⊥
+past-undecided e None past h = h
+past-undecided e (Some row) past h = omega (arith, past.0, h)
+
 -- what a job is for
 job-has : (m : Machine) → Holds m → (i : ℕ) (s : NodeState) (job : Job) → node_at m.nodes i ≡ Some s → Has job s.disk → JobFits job
 job-has m holds i s job at has =
     let node : NodeHolds (length m.net) i s = subst (λ (o : Option NodeState). IfSome o (NodeHolds (length m.net) i)) at (holds.parts.nodes i) in
     has-each JobFits job s.disk has node.1.jobs
 
--- Of Fetches and jobs: a Fetch that is awaited goes to another node, which is there; a job is for the node that has the connection; and
--- the contents that they ask for can be told.
+-- Of Fetches and jobs: a Fetch that is awaited goes to another node, which is there; a job is for the node that has the connection in the
+-- job's epoch; and the contents that they ask for can be told.
 pub record FetchesAreTold (m : Machine) : Type 0 where
   pub goals : (q h e from r : ℕ) (b : ControlBlock) (s : Stay) → IsStaying (conn m q) h e b s → is_from from e (find (is_under kind.Fetch r) ((conn m q).part.nodes h).fetches) ≡ true → (from ≢ h) × IsNode m.config.nodes from
-  pub origins : (i : ℕ) (s : NodeState) (job : Job) → node_at m.nodes i ≡ Some s → Has job s.disk → (h e : ℕ) (b : ControlBlock) → ((conn m job.c).part.nodes h).row ≡ Some (record { stage = back.Here b; epoch = record { 0 = e } }) → job.origin ≡ h
+  pub origins : (i : ℕ) (s : NodeState) (job : Job) → node_at m.nodes i ≡ Some s → Has job s.disk → (h : ℕ) (b : ControlBlock) → ((conn m job.c).part.nodes h).row ≡ Some (record { stage = back.Here b; epoch = record { 0 = job.epoch.0 } }) → job.origin ≡ h
   pub contents : (q a b e r : ℕ) (path file bytes : List ℕ) → Was (conn m q) (Node a) (Node b) bytes → SpellsMessage q e (body.Fetch r path) bytes → file_at m.files path ≡ Some file → IsMessage (content_told q e r file)
   pub jobs : (i : ℕ) (s : NodeState) (job : Job) → node_at m.nodes i ≡ Some s → Has job s.disk → IsMessage (content_told job.c job.epoch.0 job.r (content_bytes (file_at m.files job.path)))
 
@@ -67,9 +78,13 @@ module _ (config : Config) (files : List (List ℕ × List ℕ)) (checked : conf
       let goal = goal-there (IsNode config.nodes) (file_at files) (conn m q) h e b s stays (each-goes config files checked m reached q (untouched q)) from r is in
       (goal.0, subst (λ (c : Config). IsNode c.nodes from) (sym same) goal.1)
 
-  origins : (i : ℕ) (s : NodeState) (job : Job) → node_at m.nodes i ≡ Some s → Has job s.disk → (h e : ℕ) (b : ControlBlock) → ((conn m job.c).part.nodes h).row ≡ Some (record { stage = back.Here b; epoch = record { 0 = e } }) → job.origin ≡ h
-  origins i s job at has h e b row =
-      one-knows (conn m job.c) job.origin h (jobs-from-home config files m reached i s at job has) (subst Knows (sym row) tt) (connections-have-one-home config files m reached job.c)
+  origins : (i : ℕ) (s : NodeState) (job : Job) → node_at m.nodes i ≡ Some s → Has job s.disk → (h : ℕ) (b : ControlBlock) → ((conn m job.c).part.nodes h).row ≡ Some (record { stage = back.Here b; epoch = record { 0 = job.epoch.0 } }) → job.origin ≡ h
+  origins i s job at has h b row =
+      let x : Conn = conn m job.c in
+      let placed : IsPlaced x = each-placed config files m reached job.c in
+      let there : whereabouts_of x ≡ AtNode h job.epoch.0 = at-node x h job.epoch.0 (with-node x placed h job.epoch.0 b row) in
+      by_number (job.origin ≡ h) job.origin h (λ is. is)
+      (λ other. absurd (past-undecided job.epoch.0 (x.part.nodes job.origin).row (others-past x placed h job.epoch.0 there job.origin other) (jobs-from-home config files m reached i s at job has)))
 
   contents : (q a b e r : ℕ) (path file bytes : List ℕ) → Was (conn m q) (Node a) (Node b) bytes → SpellsMessage q e (body.Fetch r path) bytes → file_at m.files path ≡ Some file → IsMessage (content_told q e r file)
   contents q a b e r path file bytes was spells is =

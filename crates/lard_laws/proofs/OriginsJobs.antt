@@ -1,91 +1,124 @@
--- The jobs of all disks are for nodes that know of their connections; and one node at most knows of a connection.
-use Rattle.std.proofs.Common.{◌≡◌, ℕ, zero, suc, ◌+◌, ◌-◌, ◌==◌, Bool, true, false, cond, nat_eq, List, [], ◌∷◌, map, Option, Some, None, refl, sym, ap, ◌∙◌, subst, arith, inl, inr, ⊎_elim, eqb-true, eq-eqb}
-use Rattle.std.proofs.lemmas.Bool.Decides.{nat_tests}
-use Rattle.std.specs.Prelude.{slice_get}
-use Rattle.lard_law_view.specs.Prelude.{BackRow, Conn, Epoch, FrontConn, FrontRow, Has, Job, Rec, Row, conn, net_of, net_step, own, plain, seen_of, seen_on, whose}
-use Rattle.lard_laws.proofs.BackingFinding.{Stands, has-stands, job-queued}
-use Rattle.lard_laws.specs.Homes.{HasOneHome, NoneKnows, NoOtherKnows, RowHomes, StageHomes, WasAt}
+-- The jobs of all disks are for nodes that decided their connections in the epochs of the jobs, or behind these.
+use Rattle.std.proofs.Common.{◌≡◌, ◌≢◌, ◌⊎◌, ℕ, ◌-◌, List, [], Option, Some, None, Ok, refl, sym, ap, ◌∙◌, subst, ⊎_elim}
+use Rattle.std.specs.Prelude.{slice_set}
+use Rattle.lard_law_view.specs.Prelude.{BackIn, Config, Conn, Event, GoesBy, Has, HasRule, IsConnNumber, Job, Letter, Machine, MayRestOn, Move, Node, NodeState, Packet, Place, SpellsMessage, Was, conn, conn_of, grown, kept_at, letters, machine_start, machine_step, machine_told, no_stays, node_at, node_part, node_setting, node_step, packet_at, part_of, setting}
+use Rattle.lard_laws.proofs.OriginsDisks.{IsFetched, IsOfStep, IsOwn, step-jobs}
 use Rattle.lard_laws.specs.OriginsLaws.{JobsComeFromHome}
-use Rattle.lard_laws.specs.Origins.{AreKnown, Knows, SeenKnown}
-use Rattle.lard_laws.proofs.OriginsRuns.{each-known}
+use Rattle.lard_law_connections.proofs.Forms.{Comes, NodeStep, NodesStay, node-form}
+use Rattle.lard_law_connections.proofs.PlacesFrontMessages.{came-says}
 use Rattle.lard_law_connections.proofs.PlacesFrontRules.{has-each}
-use Rattle.lard_law_connections.specs.StoresLaws.{job_told}
-use Rattle.lard_counts.specs.Stores.{Waiting, jobs, waiting_at}
-use Rattle.lard_law_connections.proofs.StoresStored.{jobs-told}
-use Rattle.lard_handoff_front.specs.declared.row.FrontConn.TheVariants as stage
-use Rattle.lard_history.proofs.Seeing.{has-before, has-behind, own-append, seen-mine}
-use Rattle.lard_journal.specs.declared.rec.Rec.TheVariants as rec
+use Rattle.lard_law_connections.proofs.PlacesGrowing.{Grows, decided-grows, grows-still}
+use Rattle.lard_law_connections.proofs.PlacesLaw.{Owing, owing}
+use Rattle.lard_law_connections.proofs.PlacesRuns.{each-placed}
+use Rattle.lard_law_connections.proofs.PlacesTurns.{IsPlaced}
+use Rattle.lard_law_connections.specs.Places.{IsDecided}
+use Rattle.lard_law_view.proofs.Carried.{IsOn, carried-keep, goes-on, may-move}
+use Rattle.lard_law_view.proofs.Naming.{decoded-names}
+use Rattle.lard_law_view.proofs.Parts.{node-others, node-set}
+use Rattle.lard_law_view.proofs.Runs.{of-nodes}
+use Rattle.lard_history.proofs.Each.{Each, Each-weaker}
+use Rattle.lard_history.proofs.Seeing.{by_number, has-letter}
+use Rattle.lard_message.specs.declared.message.Body.TheVariants as body
+use Rattle.lard_rules.specs.declared.node.BackIn.TheVariants as input
 
--- ---- jobs
+-- the node that it is for decided its epoch
+abbrev IsAsked : Machine → Job → Type 0
+IsAsked m job = IsDecided job.epoch.0 ((conn m job.c).part.nodes job.origin).row
 
-told-has : (job : Job) (disk : List Job) → Has job disk → Has (job_told job) (map job_told disk)
-told-has job [] h = absurd h
-told-has job (x ∷ xs) h = ⊎_elim (λ (e : x ≡ job). inl (ap job_told e)) (λ (k : Has job xs). inr (told-has job xs k)) h
+abbrev AllAsked : Machine → Type 0
+AllAsked m = (i : ℕ) (s : NodeState) → node_at m.nodes i ≡ Some s → Each (IsAsked m) s.disk
 
-has-at : (a : Waiting) (xs : List Waiting) → Has a xs → (j : ℕ) × (slice_get xs j ≡ Some a)
-has-at a [] h = absurd h
-has-at a (x ∷ xs) h = ⊎_elim (λ (e : x ≡ a). (zero, ap Some e)) (λ (k : Has a xs). let later = has-at a xs k in (suc later.0, later.1)) h
+-- a node's row of a connection
+row-at : (n : Machine) (i q : ℕ) (t : NodeState) → node_at n.nodes i ≡ Some t → ((conn n q).part.nodes i).row ≡ (node_part t q).row
+unfolding conn part_of
+row-at n i q t at = ap (λ (o : Option NodeState). (kept_at q o).row) at
 
-some-place : (j : ℕ) → nat_eq (j + 1) 0 ≡ false
-some-place j = grind (arith, nat_tests)
+-- a packet between nodes is one of the connection that it names
+was-letter : (m : Machine) (k q e r from i : ℕ) (path : List ℕ) (p : Packet) → packet_at m.net k ≡ Some p → p.from ≡ Node from → p.to ≡ Node i → SpellsMessage q e (body.Fetch r path) p.bytes
+    → Was (conn m q) (Node from) (Node i) p.bytes
+unfolding conn
+was-letter m k q e r from i path p at sent to spells =
+    let named : conn_of p.from p.to p.bytes ≡ Some q = (λ j. conn_of (sent j) (to j) p.bytes) ∙ (decoded-names (record { c = q; epoch = record { 0 = e }; body = body.Fetch r path }) p.bytes spells).named in
+    subst (λ (l : Letter). Has l (letters q m.net)) (λ j. record { from = sent j; to = to j; bytes = p.bytes }) (has-letter q k m.net p at named)
 
-waits-at : (a : Waiting) (xs : List Waiting) → Has a xs → (j : ℕ) × (waiting_at xs j ≡ Some a)
-waits-at a xs h =
-    let at = has-at a xs h in
-    let back : (at.0 + 1) - 1 ≡ at.0 = omega arith in
-    (at.0 + 1, ap (λ b. cond b None (slice_get xs ((at.0 + 1) - 1))) (some-place at.0) ∙ ap (slice_get xs) back ∙ at.1)
+conn-number : (m : Machine) (q : ℕ) → (conn m q).c ≡ q
+unfolding conn
+conn-number m q = refl
 
--- what a journal has is seen by its connection
-sees : (J : List Rec) (c : ℕ) (r : Rec) → whose r ≡ Some c → Has r J → Has (Row (plain r)) (own c J)
-sees J c r its h =
-    let s : Stands r J = has-stands r J h in
-    subst (λ (l : List Rec). Has (Row (plain r)) (own c l)) (sym s.split) (subst (Has (Row (plain r))) (sym (own-append c s.before (r ∷ s.behind)))
-    (has-behind (Row (plain r)) (own c s.before) (seen_on c (net_of s.before) (r ∷ s.behind))
-    (has-before (Row (plain r)) (seen_of c (net_of s.before) r) (seen_on c (net_step (net_of s.before) r) s.behind) (subst (Has (Row (plain r))) (sym (seen-mine c (net_of s.before) r its)) (inl refl)))))
+module _ (config : Config) (files : List (List ℕ × List ℕ)) (m n : Machine) (e : Event) (on : IsOn config files m) (h : AllAsked m) (rule : HasRule e) (is : machine_step m e ≡ Ok n) where
+  -- rows go on
+  grows : (q : ℕ) → Grows (conn m q).part (conn n q).part
+  grows q =
+      let placed : IsPlaced (conn m q) = each-placed config files m on.reached q in
+      let P : Conn → Move → Type 0 = Owing (setting config files) IsPlaced in
+      let goes : GoesBy (λ x v. IsConnNumber x.c × P x v) (conn m q) (conn n q) = goes-on config files P (owing (setting config files) IsPlaced) m n e on rule is q in
+      ⊎_elim
+      (λ (same : conn n q ≡ conn m q). subst (λ (y : Conn). Grows (conn m q).part y.part) (sym same) (grows-still (conn m q).part))
+      (λ (k : (v : Move) × (IsConnNumber (conn m q).c × P (conn m q) v) × (conn n q ≡ grown (conn m q) v)).
+      subst (λ (y : Conn). Grows (conn m q).part y.part) (sym k.2) (k.1.1 (may-move IsPlaced (conn m q) k.1.0 (on.view.sound q) placed) placed).grows)
+      goes
+
+  asked-grows : (job : Job) → IsAsked m job → IsAsked n job
+  asked-grows job asked = decided-grows job.epoch.0 ((conn m job.c).part.nodes job.origin).row ((conn n job.c).part.nodes job.origin).row ((grows job.c).nodes job.origin) asked
+
+  old-asked : (i : ℕ) (s : NodeState) → node_at m.nodes i ≡ Some s → Each (IsAsked n) s.disk
+  old-asked i s at = Each-weaker (IsAsked m) (IsAsked n) asked-grows s.disk (h i s at)
+
+  module _ (step : NodeStep m e n) where
+    abbrev t : NodeState
+    t = (node_step (node_setting m step.i) step.s step.comes).0
+
+    there-now : node_at n.nodes step.i ≡ Some t
+    unfolding machine_told
+    there-now = ap (λ (k : Machine). node_at k.nodes step.i) step.is ∙ node-set m.nodes step.i step.s t step.there
+
+    others-now : (i : ℕ) → i ≢ step.i → node_at m.nodes i ≡ node_at n.nodes i
+    unfolding machine_told
+    others-now i other = sym (ap (λ (k : Machine). node_at k.nodes i) step.is ∙ node-others m.nodes step.i i step.s t step.there other)
+
+    -- the Fetch was sent by a node that decided its epoch
+    fetched-asked : (job : Job) (comes : BackIn) → Comes m e step.i step.s comes → IsFetched comes job → IsAsked m job
+    fetched-asked job (input.Message (Node from) bytes) c its =
+        let x : Conn = conn m job.c in
+        let same : SpellsMessage job.c job.epoch.0 (body.Fetch job.r job.path) c.1.bytes = subst (SpellsMessage job.c job.epoch.0 (body.Fetch job.r job.path)) (sym c.6) its.1 in
+        let was : Was x (Node from) (Node step.i) c.1.bytes = was-letter m c.0 job.c job.epoch.0 job.r from step.i job.path c.1 c.3 c.4 c.5 same in
+        let spells : SpellsMessage x.c job.epoch.0 (body.Fetch job.r job.path) c.1.bytes = subst (λ (q : ℕ). SpellsMessage q job.epoch.0 (body.Fetch job.r job.path) c.1.bytes) (sym (conn-number m job.c)) same in
+        let decided : IsDecided job.epoch.0 (x.part.nodes from).row = came-says x (Node from) (Node step.i) job.epoch.0 (body.Fetch job.r job.path) c.1.bytes (each-placed config files m on.reached job.c).letters was spells in
+        subst (λ (o : ℕ). IsDecided job.epoch.0 (x.part.nodes o).row) (sym its.0) decided
+    fetched-asked job _ c its = absurd its
+
+    new-asked : (job : Job) → IsOfStep (node_setting m step.i) step.s.disk step.comes t job → IsAsked n job
+    new-asked job its = ⊎_elim
+        (λ (old : Has job step.s.disk). asked-grows job (has-each (IsAsked m) job step.s.disk old (h step.i step.s step.there)))
+        (λ (new : IsOwn step.i t job ⊎ IsFetched step.comes job). ⊎_elim
+        (λ (own : IsOwn step.i t job). subst (λ (o : ℕ). IsDecided job.epoch.0 ((conn n job.c).part.nodes o).row) (sym own.origin)
+        (subst (IsDecided job.epoch.0) (sym (row-at n step.i job.c t there-now)) own.decided))
+        (λ (asked : IsFetched step.comes job). asked-grows job (fetched-asked job step.comes step.came asked))
+        new)
+        its
+
+    node-asked : AllAsked n
+    node-asked i u at = by_number (Each (IsAsked n) u.disk) i step.i
+        (λ same.
+        let one : Some t ≡ Some u = sym there-now ∙ ap (node_at n.nodes) (sym same) ∙ at in
+        let is_t : t ≡ u = cc in
+        subst (λ (s : NodeState). Each (IsAsked n) s.disk) is_t
+        (Each-weaker (IsOfStep (node_setting m step.i) step.s.disk step.comes t) (IsAsked n) new-asked t.disk (step-jobs (node_setting m step.i) step.s step.comes)))
+        (λ other. old-asked i u (others-now i other ∙ at))
+
+  step-asked : AllAsked n
+  step-asked = ⊎_elim
+      (λ (stay : NodesStay m e n). λ i s at. old-asked i s (ap (λ (nodes : List NodeState). node_at nodes i) (sym stay.0) ∙ at))
+      (λ (step : NodeStep m e n). node-asked step)
+      (node-form m n e is)
+
+-- no job is there at first
+start-asked : (config : Config) (files : List (List ℕ × List ℕ)) → AllAsked (machine_start config files)
+start-asked config files n s at = of-nodes (λ (o : Option NodeState). o ≡ Some s → Each (IsAsked (machine_start config files)) s.disk) config.nodes (no_stays config.cache)
+    (λ e. let no : None ≡ Some s = e in absurd cc)
+    (λ e. let same : no_stays config.cache ≡ s = cc in subst (λ (u : NodeState). Each (IsAsked (machine_start config files)) u.disk) same tt)
+    n at
 
 pub jobs-from-home : JobsComeFromHome
-unfolding conn
-jobs-from-home config files m r i s at job has =
-    let told : jobs m.journal i ≡ map job_told s.disk = (jobs-told config files m r i s at).0 in
-    let waits = waits-at (job_told job) (jobs m.journal i) (subst (Has (job_told job)) (sym told) (told-has job s.disk has)) in
-    let queued : Has (rec.Queued i job.origin job.c job.r job.path) m.journal = job-queued m.journal i waits.0 (job_told job) waits.1 in
-    let known : AreKnown (conn m job.c) = each-known config files m r job.c in
-    has-each (SeenKnown (conn m job.c).part) (Row (rec.Queued i job.origin job.c job.r job.path)) (own job.c m.journal) (sees m.journal job.c (rec.Queued i job.origin job.c job.r job.path) refl queued) known.seen
-
--- ---- one node knows
-
-knows-none : (o : Option BackRow) → o ≡ None → Knows o → ⊥
-knows-none o e h = subst Knows e h
-
-module _ (x : Conn) (a b : ℕ) (here_a : Knows (x.part.nodes a).row) (here_b : Knows (x.part.nodes b).row) where
-  is-home : (home c : ℕ) → NoOtherKnows home x.part.nodes → Knows (x.part.nodes c).row → c ≡ home
-  is-home home c none h = go (c == home) refl where
-    go : (t : Bool) → (c == home) ≡ t → c ≡ home
-    go true t = eqb-true c home t
-    go false t = absurd (knows-none (x.part.nodes c).row (none c (λ same. let yes : false ≡ true = sym t ∙ eq-eqb c home same in cc)) h)
-
-  same-by : (home : ℕ) → NoOtherKnows home x.part.nodes → a ≡ b
-  same-by home none = is-home home a none here_a ∙ sym (is-home home b none here_b)
-
-  never : NoneKnows x.part.nodes → a ≡ b
-  never none = absurd (knows-none (x.part.nodes a).row (none a) here_a)
-
-  of-was : (by : Option Epoch) → WasAt x.part.nodes by → a ≡ b
-  of-was None h = never h
-  of-was (Some e) h = same-by h.0 h.1
-
-  of-stage : (by : Option Epoch) (st : FrontConn) → StageHomes x.part.nodes by st → a ≡ b
-  of-stage by (stage.Held c) h = never h.0
-  of-stage by (stage.Waiting c) h = never h.0
-  of-stage by stage.Lent h = absurd h
-  of-stage by (stage.Offering n e) h = same-by n h.0
-  of-stage by (stage.Moved n e) h = same-by n h.0
-  of-stage by (stage.Closed last) h = of-was by h
-
-  of-row : (o : Option FrontRow) → RowHomes x.part.nodes o → a ≡ b
-  of-row None h = never h
-  of-row (Some row) h = of-stage row.ended_by row.stage h
-
-  -- two nodes that know of a connection are one
-  pub one-knows : HasOneHome x → a ≡ b
-  one-knows h = of-row x.part.front.row h
+jobs-from-home config files m r i s at job has = has-each (IsAsked m) job s.disk has
+    (carried-keep config files AllAsked (start-asked config files) (λ k n e on h rule is. step-asked config files k n e on h rule is) m r i s at)

@@ -89,12 +89,12 @@ module _ (env : FrontEnv) (p : FrontPart) where
   -- its stay ended
   ends-goes : (epoch : ℕ) (row : FrontRow) (ns : List Rec) → p.row ≡ Some row → is_away epoch row.stage ≡ true → FrontGoes c (whereabouts p.row) (Over (Some (record { 0 = epoch }))) ns
   ends-goes epoch row ns found away = go row.stage refl away where
-    at-node : (n : ℕ) (e : Epoch) → whereabouts p.row ≡ AtNode n e.0 → e.0 ≡ epoch → FrontGoes c (whereabouts p.row) (Over (Some (record { 0 = epoch }))) ns
-    at-node n e at same = Ends n epoch (at ∙ ap (AtNode n) same) refl
+    ends-at : (n : ℕ) (e : Epoch) → whereabouts p.row ≡ AtNode n e.0 → e.0 ≡ epoch → FrontGoes c (whereabouts p.row) (Over (Some (record { 0 = epoch }))) ns
+    ends-at n e at same = Ends n epoch (at ∙ ap (AtNode n) same) refl
 
     go : (st : FrontConn) → row.stage ≡ st → is_away epoch st ≡ true → FrontGoes c (whereabouts p.row) (Over (Some (record { 0 = epoch }))) ns
-    go (stage.Offering n e) at is = at-node n e (in-stage p row (stage.Offering n e) (found, at)) (eqb-true e.0 epoch is)
-    go (stage.Moved n e) at is = at-node n e (in-stage p row (stage.Moved n e) (found, at)) (eqb-true e.0 epoch is)
+    go (stage.Offering n e) at is = ends-at n e (in-stage p row (stage.Offering n e) (found, at)) (eqb-true e.0 epoch is)
+    go (stage.Moved n e) at is = ends-at n e (in-stage p row (stage.Moved n e) (found, at)) (eqb-true e.0 epoch is)
     go _ at is = let no : false ≡ true = is in absurd cc
 
   by-rules : KeptByFront env p (λ g. Unit {0}) (λ w o. Unit {0}) DeedGoes
@@ -120,6 +120,13 @@ module _ (env : FrontEnv) (p : FrontPart) where
 
 -- ---- a node
 
+-- where the front end has it with a node
+pub at-node : (x : Conn) (n e : ℕ) → IsWithNode x n e → whereabouts_of x ≡ AtNode n e
+at-node x n e h = ap whereabouts h.found ∙ ⊎_elim
+    (λ (s : h.row.stage ≡ stage.Offering n (record { 0 = e })). ap (stage_whereabouts h.row.ended_by) s)
+    (λ (s : h.row.stage ≡ stage.Moved n (record { 0 = e })). ap (stage_whereabouts h.row.ended_by) s)
+    h.stage
+
 -- It decided the epoch in which the connection is there, or an end that it told is acknowledged.
 pub data NodeGoes (n : ℕ) (at : Whereabouts) (o q : Option BackRow) : Type 0 where
   IsThere : (e : ℕ) → at ≡ AtNode n e → DecidedIn e q → NodeGoes n at o q
@@ -134,15 +141,8 @@ module _ (x : Conn) (n epoch : ℕ) (env : NodeEnv) (heads : List Seen) (placed 
   NodeDeedGoes (node.Says messages) = Unit {0}
   NodeDeedGoes (node.Does given) = NodeGoes n (whereabouts_of x) p.row given.0.row
 
-  -- the front end has it there
-  with-it : (e : ℕ) → IsWithNode x n e → whereabouts_of x ≡ AtNode n e
-  with-it e h = ap whereabouts h.found ∙ ⊎_elim
-      (λ (s : h.row.stage ≡ stage.Offering n (record { 0 = e })). ap (stage_whereabouts h.row.ended_by) s)
-      (λ (s : h.row.stage ≡ stage.Moved n (record { 0 = e })). ap (stage_whereabouts h.row.ended_by) s)
-      h.stage
-
   here-there : (b : ControlBlock) (s : Stay) → IsHereWith env.epoch p b s → whereabouts_of x ≡ AtNode n env.epoch
-  here-there b s at = with-it env.epoch (with-node x placed n env.epoch b (at.found ∙ (λ i. Some (record { stage = at.staged i; epoch = record { 0 = at.epoch_is i } }))))
+  here-there b s at = at-node x n env.epoch (with-node x placed n env.epoch b (at.found ∙ (λ i. Some (record { stage = at.staged i; epoch = record { 0 = at.epoch_is i } }))))
 
   -- what stays, and what ends, is of the epoch of its rule
   kept-in : (q : NodePart) (w : Work) (e : Ending) → DecidedIn env.epoch (kept_after env q w e).row

@@ -1,7 +1,7 @@
 -- An epoch is of one node, and a node tells the end of a stay only where that is known: each rule keeps it, so it is in every run.
 use Rattle.std.proofs.Common.{◌≡◌, ◌⊎◌, ℕ, List, Option, Some, None, refl, sym, ap, ◌∙◌, subst, inl, inr, ⊎_elim, arith}
 use Rattle.lard_law_view.specs.Prelude.{BackConn, BackRow, Conn, Epoch, FrontConn, FrontRow, IsLaw, MayRestOn, Move, NodePart, Setting, gone, grown, node_put_back, Rec, setting, tale_at}
-use Rattle.lard_laws.specs.Past.{AtFront, AtNode, DecidedIn, EndsAreOfStays, EpochsAreOfOneNode, Over, RowEnds, StageEnds, Whereabouts, stage_whereabouts, whereabouts, whereabouts_of}
+use Rattle.lard_laws.specs.Past.{AtFront, AtNode, DecidedIn, EndsAreOfStays, EpochsAreOfOneNode, Over, RowTells, StageTells, Whereabouts, stage_whereabouts, whereabouts, whereabouts_of}
 use Rattle.lard_laws.specs.PastLaws.{EachEndIsOfItsStay, EachEpochIsOfOneNode}
 use Rattle.lard_laws.proofs.PastMoves.{Closes, Ends, Forgets, FrontGoes, Goes, Hands, InFront, InNode, IsThere, NodeGoes, Stays, going}
 use Rattle.lard_law_connections.proofs.PlacesRuns.{each-placed}
@@ -93,49 +93,49 @@ move-epochs x v placed (InNode n q front same goes) one a b e h k = node-epochs 
 
 module _ (n : ℕ) where
   -- no end is told where the front end has it
-  none-ends : (o : Option BackRow) (at : Whereabouts) → RowEnds n o AtFront → RowEnds n o at
+  none-ends : (o : Option BackRow) (at : Whereabouts) → RowTells n o AtFront → RowTells n o at
   none-ends None at h = tt
   none-ends (Some row) at h = go row.stage h where
-    go : (c : BackConn) → StageEnds n row.epoch.0 c AtFront → StageEnds n row.epoch.0 c at
+    go : (c : BackConn) → StageTells n row.epoch.0 c AtFront → StageTells n row.epoch.0 c at
     go back.Ended k = absurd k
     go _ k = tt
 
   -- the stay is over by the end of its epoch
-  over-ends : (o : Option BackRow) (m e : ℕ) → RowEnds n o (AtNode m e) → RowEnds n o (Over (Some (record { 0 = e })))
+  over-ends : (o : Option BackRow) (m e : ℕ) → RowTells n o (AtNode m e) → RowTells n o (Over (Some (record { 0 = e })))
   over-ends None m e h = tt
   over-ends (Some row) m e h = go row.stage h where
-    go : (c : BackConn) → StageEnds n row.epoch.0 c (AtNode m e) → StageEnds n row.epoch.0 c (Over (Some (record { 0 = e })))
+    go : (c : BackConn) → StageTells n row.epoch.0 c (AtNode m e) → StageTells n row.epoch.0 c (Over (Some (record { 0 = e })))
     go back.Ended k = λ i. Some (record { 0 = k.1 i })
     go _ k = tt
 
-  front-ends : (c : ℕ) (o q : Whereabouts) (ns : List Rec) (row : Option BackRow) → FrontGoes c o q ns → RowEnds n row o → RowEnds n row q
-  front-ends c o q ns row (Stays is) h = subst (RowEnds n row) (sym is) h
-  front-ends c o q ns row (Hands m e here is noted) h = none-ends row q (subst (RowEnds n row) here h)
-  front-ends c o q ns row (Closes by here is) h = none-ends row q (subst (RowEnds n row) here h)
-  front-ends c o q ns row (Ends m e at is) h = subst (RowEnds n row) (sym is) (over-ends row m e (subst (RowEnds n row) at h))
+  front-ends : (c : ℕ) (o q : Whereabouts) (ns : List Rec) (row : Option BackRow) → FrontGoes c o q ns → RowTells n row o → RowTells n row q
+  front-ends c o q ns row (Stays is) h = subst (RowTells n row) (sym is) h
+  front-ends c o q ns row (Hands m e here is noted) h = none-ends row q (subst (RowTells n row) here h)
+  front-ends c o q ns row (Closes by here is) h = none-ends row q (subst (RowTells n row) here h)
+  front-ends c o q ns row (Ends m e at is) h = subst (RowTells n row) (sym is) (over-ends row m e (subst (RowTells n row) at h))
 
   -- of a stay in the epoch in which it is there
-  there-ends : (o : Option BackRow) (e : ℕ) → DecidedIn e o → RowEnds n o (AtNode n e)
+  there-ends : (o : Option BackRow) (e : ℕ) → DecidedIn e o → RowTells n o (AtNode n e)
   there-ends None e h = tt
   there-ends (Some row) e h = go row.stage where
-    go : (c : BackConn) → StageEnds n row.epoch.0 c (AtNode n e)
+    go : (c : BackConn) → StageTells n row.epoch.0 c (AtNode n e)
     go back.Ended = (refl, sym h)
     go _ = tt
 
-  forgets-ends : (o : Option BackRow) (at : Whereabouts) → RowEnds n (gone o) at
+  forgets-ends : (o : Option BackRow) (at : Whereabouts) → RowTells n (gone o) at
   forgets-ends None at = tt
   forgets-ends (Some row) at = tt
 
-  node-ends : (at : Whereabouts) (o q : Option BackRow) → NodeGoes n at o q → RowEnds n q at
-  node-ends at o q (IsThere e is decided) = subst (RowEnds n q) (sym is) (there-ends q e decided)
-  node-ends at o q (Forgets is) = subst (λ (r : Option BackRow). RowEnds n r at) (sym is) (forgets-ends o at)
+  node-ends : (at : Whereabouts) (o q : Option BackRow) → NodeGoes n at o q → RowTells n q at
+  node-ends at o q (IsThere e is decided) = subst (RowTells n q) (sym is) (there-ends q e decided)
+  node-ends at o q (Forgets is) = subst (λ (r : Option BackRow). RowTells n r at) (sym is) (forgets-ends o at)
 
 move-ends : (x : Conn) (v : Move) → Goes x v → EndsAreOfStays x → EndsAreOfStays (grown x v)
-move-ends x v (InFront same goes) h n = subst (λ (nodes : ℕ → NodePart). RowEnds n (nodes n).row (whereabouts_of (grown x v))) (sym same)
+move-ends x v (InFront same goes) h n = subst (λ (nodes : ℕ → NodePart). RowTells n (nodes n).row (whereabouts_of (grown x v))) (sym same)
     (front-ends n x.c (whereabouts_of x) (whereabouts_of (grown x v)) v.said.notes (x.part.nodes n).row goes (h n))
-move-ends x v (InNode m q front same goes) h n = subst (λ (at : Whereabouts). RowEnds n (v.part.nodes n).row at) (sym (ap (λ f. whereabouts f.row) front))
-    (subst (λ (nodes : ℕ → NodePart). RowEnds n (nodes n).row (whereabouts_of x)) (sym same)
-    (put-each x.part.nodes m q (λ k p. RowEnds k p.row (whereabouts_of x)) (node-ends m (whereabouts_of x) (x.part.nodes m).row q.row goes) (λ k other. h k) n))
+move-ends x v (InNode m q front same goes) h n = subst (λ (at : Whereabouts). RowTells n (v.part.nodes n).row at) (sym (ap (λ f. whereabouts f.row) front))
+    (subst (λ (nodes : ℕ → NodePart). RowTells n (nodes n).row (whereabouts_of x)) (sym same)
+    (put-each x.part.nodes m q (λ k p. RowTells k p.row (whereabouts_of x)) (node-ends m (whereabouts_of x) (x.part.nodes m).row q.row goes) (λ k other. h k) n))
 
 -- ---- every run
 

@@ -26,9 +26,6 @@ pub mod Tags
 pub mod Past
 pub mod PastLaws
 pub mod OriginsLaws
-pub mod Origins
-pub mod Homes
-pub mod HomesLaws
 pub mod Acks
 pub mod AcksLaws
 pub mod EndedEnds

@@ -76,14 +76,14 @@ IsOfStay n e AtFront = ⊥
 IsOfStay n e (AtNode m d) = (m ≡ n) × (d ≡ e)
 IsOfStay n e (Over by) = by ≡ Some (record { 0 = e })
 
-abbrev pub StageEnds : ℕ → ℕ → BackConn → Whereabouts → Type 0
-StageEnds n e back.Ended at = IsOfStay n e at
-StageEnds n e _ at = Unit {0}
+abbrev pub StageTells : ℕ → ℕ → BackConn → Whereabouts → Type 0
+StageTells n e back.Ended at = IsOfStay n e at
+StageTells n e _ at = Unit {0}
 
-abbrev pub RowEnds : ℕ → Option BackRow → Whereabouts → Type 0
-RowEnds n None at = Unit {0}
-RowEnds n (Some row) at = StageEnds n row.epoch.0 row.stage at
+abbrev pub RowTells : ℕ → Option BackRow → Whereabouts → Type 0
+RowTells n None at = Unit {0}
+RowTells n (Some row) at = StageTells n row.epoch.0 row.stage at
 
 -- A node tells the end of a stay only where the connection is there in its epoch, or was closed by that end.
 abbrev pub EndsAreOfStays : Conn → Type 0
-EndsAreOfStays x = (n : ℕ) → RowEnds n (x.part.nodes n).row (whereabouts_of x)
+EndsAreOfStays x = (n : ℕ) → RowTells n (x.part.nodes n).row (whereabouts_of x)

@@ -1,6 +1,7 @@
 //! All that the journal of every run obeys, as one record (`Lawful`), and those of its laws that rest on where connections are: Asks and
-//! Tags (`Asks`, `Tags`, `Homes`, `Origins`), how requests are assigned and what backs a response (`Ways`, `Backing`, `Sizes`), what counts
-//! all connections (`Steps`, `Clients`, `Records`), what records say of paths and bytes (`Formed`), and that a quiet connection is complete (`Acks`, `Ended`, `Windows`, `Quiet`).
+//! Tags (`Asks`, `Tags`), to which nodes a connection goes (`Past`) and for whom jobs are (`Origins`), how requests are assigned and what
+//! backs a response (`Ways`, `Backing`, `Sizes`), what counts all connections (`Steps`, `Clients`, `Records`), what records say of paths
+//! and bytes (`Formed`), and that a quiet connection is complete (`Acks`, `Ended`, `Windows`, `Quiet`).
 //!
 //! It stands above the laws of connections, and below the world and the public call, which promise its record of the journals that they
 //! give. The files of a topic have its word in front. It has no code.
@@ -14,7 +15,6 @@ ghost use Rattle.lard_laws.specs.Due.{JournalsAnswerWhatIsDue};
 ghost use Rattle.lard_laws.specs.DueAnswers.{ConnectionsAwaitAnswers};
 ghost use Rattle.lard_laws.specs.EndedLaws.{ConnectionsWereClosed};
 ghost use Rattle.lard_laws.specs.Formed.{RecordsHavePathsAndBytes};
-ghost use Rattle.lard_laws.specs.HomesLaws.{ConnectionsHaveOneHome};
 ghost use Rattle.lard_laws.specs.Lawful.{JournalsAreLawful};
 ghost use Rattle.lard_laws.specs.OriginsLaws.{JobsComeFromHome};
 ghost use Rattle.lard_laws.specs.PastLaws.{ConnectionsGoToNew, EachEndIsOfItsStay, EachEpochIsOfOneNode, FirstsAreOpen, PastIsClosed};
@@ -223,8 +223,9 @@ pub fn tags_name_nodes()
     ensures { ConnectionsNameNodes }
 {}
 
-/// In every run of the cluster's machine, and also of connections that the schedule touched: each job of a disk is for a node to
-/// which its connection was offered. So while a node has the connection, the job is for that node.
+/// In every run of the cluster's machine, and also of connections that the schedule touched: each job of a disk is for a node that
+/// decided its connection in the epoch of the job, or in a later one. So while a node has the connection in that epoch, the job is for
+/// that node.
 pub fn jobs_come_from_home()
     ensures { JobsComeFromHome }
 {}
