@@ -2,7 +2,7 @@
 use Rattle.std.proofs.Common.{◌≡◌, ◌⊎◌, ℕ, ◌-◌, suc, ◌==◌, true, List, [], ◌∷◌, ◌++◌, take, drop, Option, Some, None, Result, Ok, Err, refl, sym, ap, ◌∙◌, subst, inl, inr, arith}
 use Rattle.std.proofs.lemmas.Bool.{cond_both}
 use Rattle.std.specs.List.{list_any}
-use Rattle.lard_law_view.specs.Prelude.{Acknowledged, BackIn, BackRow, Body, Completed, Content, Ending, Fires, Forwarded, Has, Job, Message, MsgFault, Node, NodeDeed, NodeEnv, NodeGets, NodePart, NodeSetting, NodeState, NodeTurn, Offered, Place, Service, SpellsMessage, Tagged, ToCluster, Work, aside, came_for, come_progress, completed, content_sent, decoded, decoded_message, disk_step, fetched, fetched_file, goes_on, has_path, is_for, job_at, kept_after, node_begins, node_brought, node_deed, node_env, node_epoch_at, node_gets, node_hears, node_part, node_put, node_read, node_rule, node_saying, node_step, on_segment, own_job, read_progress, reads_batch, serving_settled, state_of, tagged, taken_sent, with_work, without, without_job, work_of}
+use Rattle.lard_law_view.specs.Prelude.{Acknowledged, BackIn, BackRow, Body, Completed, Content, Ending, Fires, Forwarded, Has, Job, Message, MsgFault, Node, NodeDeed, NodeEnv, NodeGets, NodePart, NodeSetting, NodeState, NodeTurn, Offered, Place, Service, SpellsMessage, Tagged, ToCluster, Work, aside, came_for, come_progress, completed, content_sent, decoded, decoded_message, disk_step, fetched, fetched_file, goes_on, has_path, is_for, job_at, kept_after, node_begins, node_deed, node_env, node_epoch_at, node_gets, node_hears, node_part, node_put, node_read, node_rule, node_saying, node_step, on_segment, own_job, read_progress, reads_batch, serving_settled, state_of, tagged, taken_sent, with_work, without, without_job, work_of}
 use Rattle.lard_base.specs.declared.place.Place.TheVariants as place
 use Rattle.lard_base.specs.declared.place.TimerKind.TheVariants as kind
 use Rattle.lard_law_connections.specs.Places.{IsDecided}

@@ -1,7 +1,6 @@
 -- The jobs of all disks are for nodes that decided their connections in the epochs of the jobs, or behind these.
-use Rattle.std.proofs.Common.{◌≡◌, ◌≢◌, ◌⊎◌, ℕ, ◌-◌, List, [], Option, Some, None, Ok, refl, sym, ap, ◌∙◌, subst, ⊎_elim}
-use Rattle.std.specs.Prelude.{slice_set}
-use Rattle.lard_law_view.specs.Prelude.{BackIn, Config, Conn, Event, GoesBy, Has, HasRule, IsConnNumber, Job, Letter, Machine, MayRestOn, Move, Node, NodeState, Packet, Place, SpellsMessage, Was, conn, conn_of, grown, kept_at, letters, machine_start, machine_step, machine_told, no_stays, node_at, node_part, node_setting, node_step, packet_at, part_of, setting}
+use Rattle.std.proofs.Common.{◌≡◌, ◌≢◌, ◌⊎◌, ℕ, List, Option, Some, None, Ok, refl, sym, ap, ◌∙◌, subst, ⊎_elim}
+use Rattle.lard_law_view.specs.Prelude.{BackIn, Config, Conn, Event, GoesBy, Has, HasRule, IsConnNumber, Job, Letter, Machine, Move, Node, NodeState, Packet, SpellsMessage, Was, conn, conn_of, grown, kept_at, letters, machine_start, machine_step, machine_told, no_stays, node_at, node_part, node_setting, node_step, packet_at, part_of, setting}
 use Rattle.lard_laws.proofs.OriginsDisks.{IsFetched, IsOfStep, IsOwn, step-jobs}
 use Rattle.lard_laws.specs.OriginsLaws.{JobsComeFromHome}
 use Rattle.lard_law_connections.proofs.Forms.{Comes, NodeStep, NodesStay, node-form}

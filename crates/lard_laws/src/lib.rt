@@ -230,12 +230,6 @@ pub fn jobs_come_from_home()
     ensures { JobsComeFromHome }
 {}
 
-/// In every run of the cluster's machine, and also of a connection that the schedule touched: no node knows of a connection before
-/// the front end offered it, no other than that one ever does, and it knows of the epoch of the Offer alone.
-pub fn one_node_has_a_connection()
-    ensures { ConnectionsHaveOneHome }
-{}
-
 /// In every run of the cluster's machine, with a configuration that may be used, and also of connections that the schedule touched. A
 /// first assignment is to a node that was not closed. A node that decided a connection is closed, but where the connection is there,
 /// on its way there, or over. So the node to which a connection goes knows nothing of it, until it decides just this epoch.
