@@ -1,4 +1,4 @@
-use Rattle.std.proofs.Common.{◌≡◌, List, [], ◌∷◌, None, Some, refl, subst, sym}
+use Rattle.std.proofs.Common.{◌≡◌, List, None, Some, refl, subst, sym}
 use Rattle.std.specs.Prelude.{slice_get}
 use Rattle.lard_law_view.specs.Prelude.{Front, Node, Verdict}
 use Rattle.lard_laws.specs.BackingRequests.{AnswersNextFrom}
