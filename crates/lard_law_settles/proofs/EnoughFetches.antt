@@ -34,7 +34,7 @@ module _ (config : Config) (files : List (List ℕ × List ℕ)) (checked : conf
   origins : (i : ℕ) (s : NodeState) (job : Job) → node_at m.nodes i ≡ Some s → Has job s.disk → (h from r : ℕ) → IsHome (seat_of (part_of m job.c)) h job.epoch.0 from r → job.origin ≡ h
   origins i s job at has h from r home =
       let it : IsHome (seat_of (conn m job.c).part) h job.epoch.0 from r = at-home job.c h job.epoch.0 from r home in
-      told.origins i s job at has h job.epoch.0 it.block (seat-stay (conn m job.c).part it.told h job.epoch.0 it.block it.staying it.seat).0
+      told.origins i s job at has h it.block (seat-stay (conn m job.c).part it.told h job.epoch.0 it.block it.staying it.seat).0
 
   pub fetches : Fetches m
   fetches = record { goals = goals; origins = origins; contents = told.contents; jobs = told.jobs }

@@ -1,5 +1,5 @@
 -- What is known of a connection, so that what is sent again is near: what is kept are messages, and go where they are awaited.
-use Rattle.std.proofs.Common.{◌≡◌, ◌⊎◌, ◌<◌, ◌≤◌, ◌+◌, ◌^◌, ◌==◌, ℕ, Bool, true, false, List, [], ◌∷◌, length, Option, Some, None, IfSome, refl, sym, ap, ◌∙◌, subst, arith, inl, inr, ⊎_elim, eqb-true, eq-eqb}
+use Rattle.std.proofs.Common.{◌≡◌, ◌⊎◌, ◌<◌, ◌≤◌, ◌+◌, ◌^◌, ℕ, Bool, true, false, List, [], ◌∷◌, length, Option, Some, None, IfSome, refl, sym, ap, ◌∙◌, subst, arith, inl, inr, ⊎_elim}
 use Rattle.std.specs.List.{AllByRecursion}
 use Rattle.lard_law_view.specs.Prelude.{BackConn, BackRow, Config, Conn, ControlBlock, EndpointParts, Entry, FilesAt, Front, FrontConn, FrontPart, FrontRow, IsConnNumber, IsReached, Kept, Machine, Node, NodePart, NodeState, Part, Progress, Stay, and_path, ask_kept, back_endpoint, conn, ended_kept, file_at, front_rest, kept_at, named_path, named_paths, node_at, node_part, part_of, path_in, tale_at}
 use Rattle.lard_base.specs.declared.place.TimerKind.TheVariants as kind

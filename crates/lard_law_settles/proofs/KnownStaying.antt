@@ -1,7 +1,7 @@
 -- A connection that is at a node, and one whose end a node tells: what the front end keeps of it.
 use Rattle.std.proofs.Common.{◌≡◌, ◌==◌, ℕ, Bool, true, false, is_some, Option, Some, None, refl, sym, ap, ◌∙◌, subst}
 use Rattle.std.specs.List.{find}
-use Rattle.std.proofs.lemmas.Bool.{cond_both, eqb-false, eqb-true}
+use Rattle.std.proofs.lemmas.Bool.{cond_both, eqb-true}
 use Rattle.lard_law_view.specs.Prelude.{BackConn, BackRow, Conn, ControlBlock, Epoch, FilesAt, Final, FrontConn, FrontRow, NodePart, Part, Stay, front_rest, is_under}
 use Rattle.lard_base.specs.declared.place.TimerKind.TheVariants as kind
 use Rattle.lard_bound.specs.Seats as seat
@@ -90,7 +90,7 @@ module _ (x : Conn) (ends : EndsAreOfStays x) where
 
   -- the front end knows of the end that a node tells
   pub ended-given : (row : FrontRow) (last : Final) (n i : ℕ) → x.part.front.row ≡ Some row → seat_of x.part ≡ seat.Over last → tells_end (x.part.nodes n).row ≡ Some i → row.ended_by ≡ Some (record { 0 = i })
-  ended-given row last n i is seat told = at row.stage refl (sym (seat-row x.part (Some row) is) ∙ seat) where
+  ended-given row last n i is sits told = at row.stage refl (sym (seat-row x.part (Some row) is) ∙ sits) where
     away : (t : Bool) (m d count : ℕ) → seat_away t m d count (x.part.nodes m) ≡ seat.Over last → ⊥
     away t m d count = away-cases t m d count (x.part.nodes m) (λ (z : SeatNow). z ≡ seat.Over last → ⊥) (λ f. cc) (λ b f. cc) (λ f. cc)
 
