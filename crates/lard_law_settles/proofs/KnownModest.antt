@@ -92,7 +92,8 @@ one-asks c e number (path ∷ paths) ks h = let l : length ks ≡ 1 = ap (λ (ks
 
 -- ---- a connection
 
-module _ (w : Whole) (N : ℕ → Type 0) (files : FilesAt) (x : Conn) (st : Station) (K : ℕ) (ends : EndsAreOfStays x) (one : EpochsAreOfOneNode x) (keeps : IsKeptByStage N files x)
+module _ (w : Whole) (N : ℕ → Type 0) (files : FilesAt) (x : Conn) (st : Station) (K : ℕ) (ends : EndsAreOfStays x)
+    (one : EpochsAreOfOneNode x) (keeps : IsKeptByStage N files x)
     (asks : (row : FrontRow) → x.part.front.row ≡ Some row → IsPlacing row.stage → 1 ≤ w.requests) where
   abbrev nodes : ℕ → NodePart
   nodes = x.part.nodes
@@ -102,7 +103,8 @@ module _ (w : Whole) (N : ℕ → Type 0) (files : FilesAt) (x : Conn) (st : Sta
 
   -- who tells an end has it of a stay that is where the connection is, or closed it
   ended-of : (n : ℕ) (t : Tells (nodes n)) → IsOfStay n t.row.epoch.0 (whereabouts_of x)
-  ended-of n t = subst (λ (c : BackConn). StageTells n t.row.epoch.0 c (whereabouts_of x)) t.ended (subst (λ (o : Option BackRow). RowTells n o (whereabouts_of x)) t.is (ends n))
+  ended-of n t = subst (λ (c : BackConn). StageTells n t.row.epoch.0 c (whereabouts_of x)) t.ended
+      (subst (λ (o : Option BackRow). RowTells n o (whereabouts_of x)) t.is (ends n))
 
   nobody : whereabouts_of x ≡ AtFront → tellers nodes K ≡ 0
   nobody at = none-tell nodes K (λ n l. silent (nodes n) (λ t. subst (IsOfStay n t.row.epoch.0) at (ended-of n t)))
@@ -130,7 +132,8 @@ module _ (w : Whole) (N : ℕ → Type 0) (files : FilesAt) (x : Conn) (st : Sta
     q = nodes n
 
     others : (m : ℕ) → (m ≡ n → ⊥) → tells (nodes m) ≡ 0
-    others m other = silent (nodes m) (λ t. let its : IsOfStay m t.row.epoch.0 (AtNode n e) = subst (IsOfStay m t.row.epoch.0) at_node (ended-of m t) in other (sym its.0))
+    others m other = silent (nodes m) (λ t.
+        let its : IsOfStay m t.row.epoch.0 (AtNode n e) = subst (IsOfStay m t.row.epoch.0) at_node (ended-of m t) in other (sym its.0))
 
     -- no end is told where only this node may, and does not
     quiet : tells q ≡ 0 → tellers nodes K ≡ 0
@@ -160,7 +163,8 @@ module _ (w : Whole) (N : ℕ → Type 0) (files : FilesAt) (x : Conn) (st : Sta
     decided : (o : Option BackRow) → q.row ≡ o → Bounded (seat_decided told n e count q o)
     decided None at = λ known. (quiet (tells-none q at), some)
     decided (Some row) at =
-        cond_both (row.epoch.0 == e) (seat_there told n e count q row.stage) (Offered n e count) Bounded (λ t. there row at row.stage refl) (λ t known. (quiet (elsewhere row at t), some))
+        cond_both (row.epoch.0 == e) (seat_there told n e count q row.stage) (Offered n e count) Bounded (λ t. there row at row.stage refl)
+        (λ t known. (quiet (elsewhere row at t), some))
 
   by-stage : (row : FrontRow) → x.part.front.row ≡ Some row → (s : FrontConn) → row.stage ≡ s → Bounded (seat_in x.part.front nodes s)
   by-stage row at s is = go s is where
@@ -171,8 +175,10 @@ module _ (w : Whole) (N : ℕ → Type 0) (files : FilesAt) (x : Conn) (st : Sta
     go (stage.Held b) is = λ known. nobody (where_is (stage.Held b) is)
     go (stage.Waiting b) is = λ known. (nobody (where_is (stage.Waiting b) is), asks row at (subst IsPlacing (sym is) tt))
     go stage.Lent is = λ known. nobody (where_is stage.Lent is)
-    go (stage.Offering n d) is = decided false n d.0 (front_rest x.part.front.rest).count (where_is (stage.Offering n d) is) (asks row at (subst IsPlacing (sym is) tt)) (nodes n).row refl
-    go (stage.Moved n d) is = decided true n d.0 (front_rest x.part.front.rest).count (where_is (stage.Moved n d) is) (asks row at (subst IsPlacing (sym is) tt)) (nodes n).row refl
+    go (stage.Offering n d) is = decided false n d.0 (front_rest x.part.front.rest).count (where_is (stage.Offering n d) is)
+        (asks row at (subst IsPlacing (sym is) tt)) (nodes n).row refl
+    go (stage.Moved n d) is = decided true n d.0 (front_rest x.part.front.rest).count (where_is (stage.Moved n d) is)
+        (asks row at (subst IsPlacing (sym is) tt)) (nodes n).row refl
     go (stage.Closed last) is = λ known. over-few row.ended_by (where_is (stage.Closed last) is)
 
   pub modest : Bounded (seat_of x.part)

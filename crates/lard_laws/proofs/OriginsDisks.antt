@@ -59,15 +59,20 @@ module _ (env : NodeEnv) where
   rules_jobs : (p : NodePart) → KeptByNode env p (λ g. Unit {0}) DeedJobs
   rules_jobs p = record {
     drops = tt;
-    hears = λ said b s m at. works-jobs p [] (goes_on env (work_of (on_segment b said).1 s)) (goes-works env AreMine by_mine (work_of (on_segment b said).1 s) tt);
-    tags = λ number nodes b s m at asked same count. works-jobs (record p { kept = without kind.Ask 0 p.kept }) [] (goes_on env (tagged env nodes (work_of b s)))
+    hears = λ said b s m at.
+        works-jobs p [] (goes_on env (work_of (on_segment b said).1 s)) (goes-works env AreMine by_mine (work_of (on_segment b said).1 s) tt);
+    tags = λ number nodes b s m at asked same count.
+        works-jobs (record p { kept = without kind.Ask 0 p.kept }) [] (goes_on env (tagged env nodes (work_of b s)))
         (goes-works env AreMine by_mine (tagged env nodes (work_of b s)) (tagged-works env AreMine by_mine nodes (work_of b s) tt));
-    comes = λ from r b s m at wanted. works-jobs (record p { fetches = without kind.Fetch r p.fetches }) [] (goes_on env (came_for (come_progress from) r (work_of b s)))
-        (goes-works env AreMine by_mine (came_for (come_progress from) r (work_of b s)) (came-works env AreMine by_mine (come_progress from) r (work_of b s) tt));
+    comes = λ from r b s m at wanted.
+        works-jobs (record p { fetches = without kind.Fetch r p.fetches }) [] (goes_on env (came_for (come_progress from) r (work_of b s)))
+        (goes-works env AreMine by_mine (came_for (come_progress from) r (work_of b s))
+        (came-works env AreMine by_mine (come_progress from) r (work_of b s) tt));
     reads = λ r path b s m at. works-jobs p [] (goes_on env (came_for read_progress r (work_of b s)))
         (goes-works env AreMine by_mine (came_for read_progress r (work_of b s)) (came-works env AreMine by_mine read_progress r (work_of b s) tt));
     begins = λ parts m new. works-jobs p (taken_sent env) (goes_on env (state_of (reads_batch env true (node_begins env parts))))
-        (goes-works env AreMine by_mine (state_of (reads_batch env true (node_begins env parts))) (batch-works env AreMine by_mine true (node_begins env parts) refl tt));
+        (goes-works env AreMine by_mine (state_of (reads_batch env true (node_begins env parts)))
+        (batch-works env AreMine by_mine true (node_begins env parts) refl tt));
     takes_again = λ parts m again. tt;
     fires = λ b s m at. tt;
     resends = λ m none. tt;
@@ -123,7 +128,8 @@ module _ (k : NodeSetting) (disk : List Job) (i : BackIn) where
 
   rule-of-step : (s : NodeState) (c epoch : ℕ) (g : NodeGets) → WereThere s → IsInItsEpoch (node_env k s c epoch) (node_part s c) g
       → AreOfStep (node_deed k s c (node_rule (node_env k s c epoch) (node_part s c) g)).0
-  rule-of-step s c epoch g old at = deed-jobs s c epoch (node_rule (node_env k s c epoch) (node_part s c) g) old (rule-jobs (node_env k s c epoch) (node_part s c) g at)
+  rule-of-step s c epoch g old at =
+      deed-jobs s c epoch (node_rule (node_env k s c epoch) (node_part s c) g) old (rule-jobs (node_env k s c epoch) (node_part s c) g at)
 
   -- ---- messages
 
@@ -134,11 +140,14 @@ module _ (k : NodeSetting) (disk : List Job) (i : BackIn) where
       let job : Job = record { origin = from; c = c; epoch = record { 0 = epoch }; r = r; path = path } in
       let sent : NodeTurn = record (node_saying (content_sent k from c epoch r path ∷ [])) { notes = rec.Hit k.n path ∷ [] } in
       let queued : NodeTurn = record (node_saying []) { notes = rec.Queued k.n from c r path ∷ []; jobs = job ∷ [] } in
-      cond_both (list_any (is_for c epoch r) s.disk) (s, _) (aside s (fetched_file k s from c epoch r path)) (λ (x : NodeState × _). AreOfStep x.0) (λ t. old-jobs s s old)
-      (λ t. cond_both (has_path s.cache.entries path) sent queued (λ (t : NodeTurn). AreOfStep (aside s t).0) (λ t. aside-jobs s sent old tt) (λ t. aside-jobs s queued old (asked, tt)))
+      cond_both (list_any (is_for c epoch r) s.disk) (s, _) (aside s (fetched_file k s from c epoch r path)) (λ (x : NodeState × _). AreOfStep x.0)
+      (λ t. old-jobs s s old)
+      (λ t. cond_both (has_path s.cache.entries path) sent queued (λ (t : NodeTurn). AreOfStep (aside s t).0)
+      (λ t. aside-jobs s sent old tt) (λ t. aside-jobs s queued old (asked, tt)))
 
   hears-jobs : (s : NodeState) (from : Place) (c epoch : ℕ) (b : Body) → WereThere s
-      → ((n r : ℕ) (path : List ℕ) → from ≡ Node n → b ≡ body.Fetch r path → IsFetched i (record { origin = n; c = c; epoch = record { 0 = epoch }; r = r; path = path }))
+      → ((n r : ℕ) (path : List ℕ) → from ≡ Node n → b ≡ body.Fetch r path
+      → IsFetched i (record { origin = n; c = c; epoch = record { 0 = epoch }; r = r; path = path }))
       → AreOfStep (node_hears k s from c epoch b).0
   hears-jobs s place.Front c epoch (body.Offer parts) old asked = rule-of-step s c epoch (Offered parts) old tt
   hears-jobs s place.Front c epoch (body.Forward bytes) old asked = rule-of-step s c epoch (Forwarded (decoded bytes c ToCluster)) old tt
@@ -163,7 +172,8 @@ module _ (k : NodeSetting) (disk : List Job) (i : BackIn) where
       let left : WereThere after = without-jobs s.disk j old in
       let read = node_deed k after job.c (node_read (node_env k after job.c job.epoch.0) (node_part after job.c) job.r) in
       let sent = aside after (node_saying (content_sent k job.origin job.c job.epoch.0 job.r job.path ∷ [])) in
-      cond_both (job.origin == k.n) read sent (λ (x : NodeState × _). AreOfStep x.0) (λ t. rule-of-step after job.c job.epoch.0 (Completed job.r job.path) left tt)
+      cond_both (job.origin == k.n) read sent (λ (x : NodeState × _). AreOfStep x.0)
+      (λ t. rule-of-step after job.c job.epoch.0 (Completed job.r job.path) left tt)
       (λ t. aside-jobs after (node_saying (content_sent k job.origin job.c job.epoch.0 job.r job.path ∷ [])) left tt)
 
 -- its own jobs
@@ -179,10 +189,14 @@ step-jobs k s i = by i where
 
   by : (i : BackIn) → Each (IsOfStep k s.disk i (node_step k s i).0) (node_step k s i).0.disk
   by (input.Message from bytes) = gets (decoded_message bytes) refl where
-    gets : (r : Result Message MsgFault) → decoded_message bytes ≡ r → Each (IsOfStep k s.disk (input.Message from bytes) (node_gets k s from r).0) (node_gets k s from r).0.disk
+    gets : (r : Result Message MsgFault) → decoded_message bytes ≡ r
+        → Each (IsOfStep k s.disk (input.Message from bytes) (node_gets k s from r).0) (node_gets k s from r).0.disk
     gets (Err fault) is = old-jobs k s.disk (input.Message from bytes) s s old
     gets (Ok m) is = hears-jobs k s.disk (input.Message from bytes) s from m.c m.epoch.0 m.body old
-        (λ n r path at its. subst (λ (p : Place). IsFetched (input.Message p bytes) (record { origin = n; c = m.c; epoch = record { 0 = m.epoch.0 }; r = r; path = path })) (sym at)
+        (λ n r path at its.
+        let job : Job = record { origin = n; c = m.c; epoch = record { 0 = m.epoch.0 }; r = r; path = path } in
+        subst (λ (p : Place). IsFetched (input.Message p bytes) job) (sym at)
         (refl, is ∙ ap (λ (b : Body). Ok (record { c = m.c; epoch = record { 0 = m.epoch.0 }; body = b })) its))
-  by (input.Timer c) = rule-of-step k s.disk (input.Timer c) s c (node_epoch_at s c) Fires old (λ row found. sym (ap (λ (o : Option BackRow). elim o as (λ o. ℕ) [ None ↦ 0 | Some r ↦ r.epoch.0 ]) found))
+  by (input.Timer c) = rule-of-step k s.disk (input.Timer c) s c (node_epoch_at s c) Fires old
+      (λ row found. sym (ap (λ (o : Option BackRow). elim o as (λ o. ℕ) [ None ↦ 0 | Some r ↦ r.epoch.0 ]) found))
   by (input.Disk j) = disk-jobs k s.disk (input.Disk j) s j (job_at s.disk j) old

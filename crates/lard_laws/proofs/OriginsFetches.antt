@@ -84,7 +84,8 @@ module _ (config : Config) (files : List (List ℕ × List ℕ)) (checked : conf
       let placed : IsPlaced x = each-placed config files m reached job.c in
       let there : whereabouts_of x ≡ AtNode h job.epoch.0 = at-node x h job.epoch.0 (with-node x placed h job.epoch.0 b row) in
       by_number (job.origin ≡ h) job.origin h (λ is. is)
-      (λ other. absurd (past-undecided job.epoch.0 (x.part.nodes job.origin).row (others-past x placed h job.epoch.0 there job.origin other) (jobs-from-home config files m reached i s at job has)))
+      (λ other. absurd (past-undecided job.epoch.0 (x.part.nodes job.origin).row (others-past x placed h job.epoch.0 there job.origin other)
+      (jobs-from-home config files m reached i s at job has)))
 
   contents : (q a b e r : ℕ) (path file bytes : List ℕ) → Was (conn m q) (Node a) (Node b) bytes → SpellsMessage q e (body.Fetch r path) bytes → file_at m.files path ≡ Some file → IsMessage (content_told q e r file)
   contents q a b e r path file bytes was spells is =

@@ -1,6 +1,6 @@
 -- The jobs of all disks are for nodes that decided their connections in the epochs of the jobs, or behind these.
 use Rattle.std.proofs.Common.{◌≡◌, ◌≢◌, ◌⊎◌, ℕ, List, Option, Some, None, Ok, refl, sym, ap, ◌∙◌, subst, ⊎_elim}
-use Rattle.lard_law_view.specs.Prelude.{BackIn, Config, Conn, Event, GoesBy, Has, HasRule, IsConnNumber, Job, Letter, Machine, Move, Node, NodeState, Packet, SpellsMessage, Was, conn, conn_of, grown, kept_at, letters, machine_start, machine_step, machine_told, no_stays, node_at, node_part, node_setting, node_step, packet_at, part_of, setting}
+use Rattle.lard_law_view.specs.Prelude.{BackIn, Body, Config, Conn, Event, GoesBy, Has, HasRule, IsConnNumber, Job, Letter, Machine, Move, Node, NodeState, Packet, SpellsMessage, Was, conn, conn_of, grown, kept_at, letters, machine_start, machine_step, machine_told, no_stays, node_at, node_part, node_setting, node_step, packet_at, part_of, setting}
 use Rattle.lard_laws.proofs.OriginsDisks.{IsFetched, IsOfStep, IsOwn, step-jobs}
 use Rattle.lard_laws.specs.OriginsLaws.{JobsComeFromHome}
 use Rattle.lard_law_connections.proofs.Forms.{Comes, NodeStep, NodesStay, node-form}
@@ -33,24 +33,28 @@ unfolding conn part_of
 row-at n i q t at = ap (λ (o : Option NodeState). (kept_at q o).row) at
 
 -- a packet between nodes is one of the connection that it names
-was-letter : (m : Machine) (k q e r from i : ℕ) (path : List ℕ) (p : Packet) → packet_at m.net k ≡ Some p → p.from ≡ Node from → p.to ≡ Node i → SpellsMessage q e (body.Fetch r path) p.bytes
+was-letter : (m : Machine) (k q e r from i : ℕ) (path : List ℕ) (p : Packet) → packet_at m.net k ≡ Some p → p.from ≡ Node from → p.to ≡ Node i
+    → SpellsMessage q e (body.Fetch r path) p.bytes
     → Was (conn m q) (Node from) (Node i) p.bytes
 unfolding conn
 was-letter m k q e r from i path p at sent to spells =
-    let named : conn_of p.from p.to p.bytes ≡ Some q = (λ j. conn_of (sent j) (to j) p.bytes) ∙ (decoded-names (record { c = q; epoch = record { 0 = e }; body = body.Fetch r path }) p.bytes spells).named in
+    let named : conn_of p.from p.to p.bytes ≡ Some q = (λ j. conn_of (sent j) (to j) p.bytes)
+    ∙ (decoded-names (record { c = q; epoch = record { 0 = e }; body = body.Fetch r path }) p.bytes spells).named in
     subst (λ (l : Letter). Has l (letters q m.net)) (λ j. record { from = sent j; to = to j; bytes = p.bytes }) (has-letter q k m.net p at named)
 
 conn-number : (m : Machine) (q : ℕ) → (conn m q).c ≡ q
 unfolding conn
 conn-number m q = refl
 
-module _ (config : Config) (files : List (List ℕ × List ℕ)) (m n : Machine) (e : Event) (on : IsOn config files m) (h : AllAsked m) (rule : HasRule e) (is : machine_step m e ≡ Ok n) where
+module _ (config : Config) (files : List (List ℕ × List ℕ)) (m n : Machine) (e : Event)
+    (on : IsOn config files m) (h : AllAsked m) (rule : HasRule e) (is : machine_step m e ≡ Ok n) where
   -- rows go on
   grows : (q : ℕ) → Grows (conn m q).part (conn n q).part
   grows q =
       let placed : IsPlaced (conn m q) = each-placed config files m on.reached q in
       let P : Conn → Move → Type 0 = Owing (setting config files) IsPlaced in
-      let goes : GoesBy (λ x v. IsConnNumber x.c × P x v) (conn m q) (conn n q) = goes-on config files P (owing (setting config files) IsPlaced) m n e on rule is q in
+      let goes : GoesBy (λ x v. IsConnNumber x.c × P x v) (conn m q) (conn n q) =
+      goes-on config files P (owing (setting config files) IsPlaced) m n e on rule is q in
       ⊎_elim
       (λ (same : conn n q ≡ conn m q). subst (λ (y : Conn). Grows (conn m q).part y.part) (sym same) (grows-still (conn m q).part))
       (λ (k : (v : Move) × (IsConnNumber (conn m q).c × P (conn m q) v) × (conn n q ≡ grown (conn m q) v)).
@@ -58,7 +62,8 @@ module _ (config : Config) (files : List (List ℕ × List ℕ)) (m n : Machine)
       goes
 
   asked-grows : (job : Job) → IsAsked m job → IsAsked n job
-  asked-grows job asked = decided-grows job.epoch.0 ((conn m job.c).part.nodes job.origin).row ((conn n job.c).part.nodes job.origin).row ((grows job.c).nodes job.origin) asked
+  asked-grows job asked =
+      decided-grows job.epoch.0 ((conn m job.c).part.nodes job.origin).row ((conn n job.c).part.nodes job.origin).row ((grows job.c).nodes job.origin) asked
 
   old-asked : (i : ℕ) (s : NodeState) → node_at m.nodes i ≡ Some s → Each (IsAsked n) s.disk
   old-asked i s at = Each-weaker (IsAsked m) (IsAsked n) asked-grows s.disk (h i s at)
@@ -79,10 +84,13 @@ module _ (config : Config) (files : List (List ℕ × List ℕ)) (m n : Machine)
     fetched-asked : (job : Job) (comes : BackIn) → Comes m e step.i step.s comes → IsFetched comes job → IsAsked m job
     fetched-asked job (input.Message (Node from) bytes) c its =
         let x : Conn = conn m job.c in
-        let same : SpellsMessage job.c job.epoch.0 (body.Fetch job.r job.path) c.1.bytes = subst (SpellsMessage job.c job.epoch.0 (body.Fetch job.r job.path)) (sym c.6) its.1 in
+        let fetch : Body = body.Fetch job.r job.path in
+        let same : SpellsMessage job.c job.epoch.0 fetch c.1.bytes = subst (SpellsMessage job.c job.epoch.0 fetch) (sym c.6) its.1 in
         let was : Was x (Node from) (Node step.i) c.1.bytes = was-letter m c.0 job.c job.epoch.0 job.r from step.i job.path c.1 c.3 c.4 c.5 same in
-        let spells : SpellsMessage x.c job.epoch.0 (body.Fetch job.r job.path) c.1.bytes = subst (λ (q : ℕ). SpellsMessage q job.epoch.0 (body.Fetch job.r job.path) c.1.bytes) (sym (conn-number m job.c)) same in
-        let decided : IsDecided job.epoch.0 (x.part.nodes from).row = came-says x (Node from) (Node step.i) job.epoch.0 (body.Fetch job.r job.path) c.1.bytes (each-placed config files m on.reached job.c).letters was spells in
+        let spells : SpellsMessage x.c job.epoch.0 fetch c.1.bytes = subst (λ (q : ℕ). SpellsMessage q job.epoch.0 fetch c.1.bytes) (sym (conn-number m job.c)) same in
+        let placed : IsPlaced x = each-placed config files m on.reached job.c in
+        let decided : IsDecided job.epoch.0 (x.part.nodes from).row =
+        came-says x (Node from) (Node step.i) job.epoch.0 fetch c.1.bytes placed.letters was spells in
         subst (λ (o : ℕ). IsDecided job.epoch.0 (x.part.nodes o).row) (sym its.0) decided
     fetched-asked job _ c its = absurd its
 
@@ -113,7 +121,8 @@ module _ (config : Config) (files : List (List ℕ × List ℕ)) (m n : Machine)
 
 -- no job is there at first
 start-asked : (config : Config) (files : List (List ℕ × List ℕ)) → AllAsked (machine_start config files)
-start-asked config files n s at = of-nodes (λ (o : Option NodeState). o ≡ Some s → Each (IsAsked (machine_start config files)) s.disk) config.nodes (no_stays config.cache)
+start-asked config files n s at = of-nodes
+    (λ (o : Option NodeState). o ≡ Some s → Each (IsAsked (machine_start config files)) s.disk) config.nodes (no_stays config.cache)
     (λ e. let no : None ≡ Some s = e in absurd cc)
     (λ e. let same : no_stays config.cache ≡ s = cc in subst (λ (u : NodeState). Each (IsAsked (machine_start config files)) u.disk) same tt)
     n at

@@ -39,7 +39,8 @@ module _ (P : ℕ → Type 0) (t : Tally) where
       let p : P (relieved t cfg n) = cond_both (is_overloaded t cfg n) (least_node t) n P (λ e. low) (λ e. h) in
       (p, cond_both (has set (relieved t cfg n)) None (Some (relieved t cfg n)) (λ (o : Option ℕ). IfSome o P) (λ e. tt) (λ e. p))
 
-  first-is : (cfg : Config) (set : ℕ) (now last : Millis) → 0 < length t.open_nodes → ((n : ℕ) → IsIn n t.open_nodes → P n) → ((n : ℕ) → 1 ≤ n → has set n ≡ true → P n)
+  first-is : (cfg : Config) (set : ℕ) (now last : Millis) → 0 < length t.open_nodes → ((n : ℕ) → IsIn n t.open_nodes → P n)
+      → ((n : ℕ) → 1 ≤ n → has set n ≡ true → P n)
       → Chooses (first_choice t set now last cfg)
   unfolding first_choice
   first-is cfg set now last some all members = chosen-is cfg set (now.0 - last.0) (least-is some all) (least_of t set) (go (least_of t set) refl) where
@@ -63,7 +64,8 @@ abbrev IsOpen : List Rec → ℕ → Type 0
 IsOpen past n = is_node_closed past n ≡ false
 
 -- who is taken in is open
-taken-open : (past : List Rec) (k : ℕ) (add : Option ℕ) (was : Bool) → IfSome add (IsOpen past) → (was ≡ true → IsOpen past k) → taken_in k add was ≡ true → IsOpen past k
+taken-open : (past : List Rec) (k : ℕ) (add : Option ℕ) (was : Bool) → IfSome add (IsOpen past) → (was ≡ true → IsOpen past k)
+    → taken_in k add was ≡ true → IsOpen past k
 taken-open past k None was new old h = old h
 taken-open past k (Some n) was new old h = go (nat_eq k n) refl h where
   go : (b : Bool) → nat_eq k n ≡ b → cond b true was ≡ true → IsOpen past k
@@ -93,19 +95,23 @@ module _ (config : Config) (files : List (List ℕ × List ℕ)) (m : Machine) (
     nodes-are = past-has config files m checked r past later is
 
     open-is : (n : ℕ) → IsIn n l.loads.open_nodes → IsOpen past n
-    open-is n within = not-true (is_node_closed past n) (from_filter (λ k. not (is_node_closed past k)) n (numbers config.nodes) (subst (IsIn n) (told-open config past) within)).0
+    open-is n within = not-true (is_node_closed past n)
+        (from_filter (λ k. not (is_node_closed past k)) n (numbers config.nodes) (subst (IsIn n) (told-open config past) within)).0
 
     member-open : (path : List ℕ) (n : ℕ) → 1 ≤ n → has (server_set l path).members n ≡ true → IsOpen past n
     member-open path n some h = serve path n some (sym ((servers-are-told config files m checked r past later is).0 path n some) ∙ h)
 
     first-open : (path : List ℕ) → Chooses (IsOpen past) l.loads (first_choice l.loads (server_set l path).members l.now (server_set l path).modified config)
-    first-open path = first-is (IsOpen past) l.loads config (server_set l path).members l.now (server_set l path).modified nodes-are.some_open open-is (member-open path)
+    first-open path =
+        first-is (IsOpen past) l.loads config (server_set l path).members l.now (server_set l path).modified nodes-are.some_open open-is (member-open path)
 
-    later-open : (c : ℕ) (path : List ℕ) (queue h : ℕ) → home l.loads c ≡ Some h → IfSome (later_choice l.loads h (server_set l path).members queue config).add (IsOpen past)
+    later-open : (c : ℕ) (path : List ℕ) (queue h : ℕ) → home l.loads c ≡ Some h
+        → IfSome (later_choice l.loads h (server_set l path).members queue config).add (IsOpen past)
     later-open c path queue h at =
         let node : IsNode config.nodes h = home-node config.nodes l.loads.standings c h nodes-are.homes at in
         let within : IsIn h (numbers config.nodes) = in_range 1 config.nodes h node.0 (let most = node.1 in omega (arith, most)) in
-        let told : is_open l.loads h ≡ not (is_node_closed past h) = ap (list_any (nat_eq h)) (told-open config past) ∙ any-filter (λ n. not (is_node_closed past n)) h (numbers config.nodes) within in
+        let told : is_open l.loads h ≡ not (is_node_closed past h) = ap (list_any (nat_eq h)) (told-open config past)
+        ∙ any-filter (λ n. not (is_node_closed past n)) h (numbers config.nodes) within in
         later-is (IsOpen past) l.loads h (server_set l path).members queue config (λ open_. true-not (is_open l.loads h) open_ (is_node_closed past h) told)
 
     -- a record that may stand
@@ -114,7 +120,8 @@ module _ (config : Config) (files : List (List ℕ × List ℕ)) (m : Machine) (
     assigns-open _ may = tt
 
     -- behind it who serves is still open
-    one-serves : (x : Rec) → MayAssign config l x → (path : List ℕ) (k : ℕ) → 1 ≤ k → serves_step path k (serves past path k) x ≡ true → node_closed_step k (is_node_closed past k) x ≡ false
+    one-serves : (x : Rec) → MayAssign config l x → (path : List ℕ) (k : ℕ) → 1 ≤ k → serves_step path k (serves past path k) x ≡ true
+        → node_closed_step k (is_node_closed past k) x ≡ false
     one-serves (rec.AssignedFirst c i other n add remove) may path k some h = go (bytes_eq path other) h where
       new : IfSome add (IsOpen past)
       new = subst (λ (choice : FirstChoice). IfSome choice.add (IsOpen past)) (sym may.1) (first-open other).1
@@ -135,11 +142,13 @@ module _ (config : Config) (files : List (List ℕ × List ℕ)) (m : Machine) (
       go false e = serve path k some e
     one-serves _ may path k some h = serve path k some h
 
-  one-more : (past : List Rec) (x : Rec) (later : List Rec) → m.journal ≡ past ++ later → ServeOpen past → MayAssign config (ledger config past) x → ServeOpen (past ++ x ∷ [])
+  one-more : (past : List Rec) (x : Rec) (later : List Rec) → m.journal ≡ past ++ later → ServeOpen past
+      → MayAssign config (ledger config past) x → ServeOpen (past ++ x ∷ [])
   one-more past x later is serve may path k some h = fold-append (node_closed_step k) false past (x ∷ [])
       ∙ one-serves past later is serve x may path k some (sym (fold-append (serves_step path k) false past (x ∷ [])) ∙ h)
 
-  all-open : (past rest : List Rec) → m.journal ≡ past ++ rest → EachMay (λ past x. MayAssign config (ledger config past) x) past rest → ServeOpen past → EachMay AssignsOpen past rest
+  all-open : (past rest : List Rec) → m.journal ≡ past ++ rest → EachMay (λ past x. MayAssign config (ledger config past) x) past rest
+      → ServeOpen past → EachMay AssignsOpen past rest
   all-open past [] is may serve = tt
   all-open past (x ∷ rest) is may serve = (
     assigns-open past (x ∷ rest) is serve x may.0,

@@ -76,10 +76,12 @@ module _ (J : List Rec) where
 
   list-opens : (q : ℕ) (net : List Packet) (rs : List Rec) → Each OpenIn rs → Each OpenSeen (seen_on q net rs)
   list-opens q net [] h = tt
-  list-opens q net (r ∷ rs) h = Each-append OpenSeen (seen_of q net r) (seen_on q (net_step net r) rs) (seen-opens q net r h.0) (list-opens q (net_step net r) rs h.1)
+  list-opens q net (r ∷ rs) h =
+      Each-append OpenSeen (seen_of q net r) (seen_on q (net_step net r) rs) (seen-opens q net r h.0) (list-opens q (net_step net r) rs h.1)
 
 -- what a connection sees of a step is what its move says
-seen-is : (m n : Machine) (rs : List Rec) (q : ℕ) (v : Move) → n.journal ≡ m.journal ++ rs → conn n q ≡ grown (conn m q) v → seen_on q (net_of m.journal) rs ≡ seen_in (conn m q) v
+seen-is : (m n : Machine) (rs : List Rec) (q : ℕ) (v : Move) → n.journal ≡ m.journal ++ rs → conn n q ≡ grown (conn m q) v
+    → seen_on q (net_of m.journal) rs ≡ seen_in (conn m q) v
 unfolding conn
 seen-is m n rs q v is goes = cancel (own q m.journal) (seen_on q (net_of m.journal) rs) (seen_in (conn m q) v)
     (sym (own-append q m.journal rs) ∙ ap (own q) (sym is) ∙ ap (λ (x : Conn). x.seen) goes)
@@ -130,7 +132,8 @@ module _ (J K : List Rec) (more : (n : ℕ) → IsClosed J n → IsClosed K n) (
 
     front-new : (q : Whereabouts) → FrontGoes x.c (whereabouts_of x) q ns → NewAt nodes q
     front-new q (Stays is) = subst (NewAt nodes) (sym is) h.new
-    front-new q (Hands n e here is assigned) = subst (NewAt nodes) (sym is) (undecided-new e (nodes n).row (λ decided. opens n assigned (front-closed here n decided)))
+    front-new q (Hands n e here is assigned) = subst (NewAt nodes) (sym is)
+        (undecided-new e (nodes n).row (λ decided. opens n assigned (front-closed here n decided)))
     front-new q (Closes by here is) = subst (NewAt nodes) (sym is) tt
     front-new q (Ends m e at is) = subst (NewAt nodes) (sym is) tt
 
@@ -141,10 +144,11 @@ module _ (J K : List Rec) (more : (n : ℕ) → IsClosed J n → IsClosed K n) (
     after = node_put_back nodes n q
 
     node-closes : NodeGoes n (whereabouts_of x) (nodes n).row q.row → (k : ℕ) → HasDecided (after k).row → IsAtOrOver k (whereabouts_of x) ⊎ IsClosed K k
-    node-closes goes = put-each nodes n q (λ k p. HasDecided p.row → IsAtOrOver k (whereabouts_of x) ⊎ IsClosed K k) (mine goes) (λ k other decided. stays-so.closes k decided) where
-      mine : NodeGoes n (whereabouts_of x) (nodes n).row q.row → HasDecided q.row → IsAtOrOver n (whereabouts_of x) ⊎ IsClosed K n
-      mine (IsThere e at is) decided = inl (subst (IsAtOrOver n) (sym at) refl)
-      mine (Forgets is) decided = stays-so.closes n (forgets-has (nodes n).row (subst HasDecided is decided))
+    node-closes goes = put-each nodes n q (λ k p. HasDecided p.row → IsAtOrOver k (whereabouts_of x) ⊎ IsClosed K k) (mine goes)
+        (λ k other decided. stays-so.closes k decided) where
+          mine : NodeGoes n (whereabouts_of x) (nodes n).row q.row → HasDecided q.row → IsAtOrOver n (whereabouts_of x) ⊎ IsClosed K n
+          mine (IsThere e at is) decided = inl (subst (IsAtOrOver n) (sym at) refl)
+          mine (Forgets is) decided = stays-so.closes n (forgets-has (nodes n).row (subst HasDecided is decided))
 
     node-new : NodeGoes n (whereabouts_of x) (nodes n).row q.row → NewAt after (whereabouts_of x)
     node-new (IsThere e at is) = subst (NewAt after) (sym at) (subst (λ (p : NodePart). IsNewTo e p.row) (sym (put-same nodes n q)) (decided-new e q.row is))
@@ -157,7 +161,8 @@ module _ (J K : List Rec) (more : (n : ℕ) → IsClosed J n → IsClosed K n) (
 
   move-so : (v : Move) → Each (OpenSeen J) (seen_in x v) → Goes x v → IsPastSo K (grown x v)
   move-so v opens (InFront same goes) = record {
-    closes = λ n decided. front-closes v.said.notes open_ (whereabouts_of (grown x v)) goes n (subst (λ (ps : ℕ → NodePart). HasDecided (ps n).row) same decided);
+    closes = λ n decided.
+        front-closes v.said.notes open_ (whereabouts_of (grown x v)) goes n (subst (λ (ps : ℕ → NodePart). HasDecided (ps n).row) same decided);
     new = subst (λ (ps : ℕ → NodePart). NewAt ps (whereabouts_of (grown x v))) (sym same) (front-new v.said.notes open_ (whereabouts_of (grown x v)) goes);
   } where
     open_ : (n : ℕ) → IsAssigned x.c n v.said.notes → IsClosed J n → ⊥
@@ -165,8 +170,10 @@ module _ (J K : List Rec) (more : (n : ℕ) → IsClosed J n → IsClosed K n) (
         let r : Rec = rec.AssignedFirst x.c a.r a.path n a.add a.remove in
         has-each (Row r) (OpenSeen J) (seen_in x v) (has-behind (Row r) v.heads (map Row (rows_of x v)) (noted-row x v r a.noted)) opens
   move-so v opens (InNode n q front same goes) = record {
-    closes = λ k decided. subst (λ (at : Whereabouts). IsAtOrOver k at ⊎ IsClosed K k) at_same (node-closes n q goes k (subst (λ (ps : ℕ → NodePart). HasDecided (ps k).row) same decided));
-    new = subst (λ (at : Whereabouts). NewAt v.part.nodes at) at_same (subst (λ (ps : ℕ → NodePart). NewAt ps (whereabouts_of x)) (sym same) (node-new n q goes));
+    closes = λ k decided. subst (λ (at : Whereabouts). IsAtOrOver k at ⊎ IsClosed K k) at_same
+        (node-closes n q goes k (subst (λ (ps : ℕ → NodePart). HasDecided (ps k).row) same decided));
+    new = subst (λ (at : Whereabouts). NewAt v.part.nodes at) at_same
+        (subst (λ (ps : ℕ → NodePart). NewAt ps (whereabouts_of x)) (sym same) (node-new n q goes));
   } where
     at_same : whereabouts_of x ≡ whereabouts_of (grown x v)
     at_same = ap (λ f. whereabouts f.row) (sym front)
@@ -181,10 +188,12 @@ module _ (config : Config) (files : List (List ℕ × List ℕ)) (checked : conf
   step-so m n e on h rule is q =
       let after : IsAfter m e n = step-after m on.view e n rule is in
       let reached : IsReached config files n = (on.reached.0 ++ e ∷ [], passes-more on.reached.0 (machine_start config files) m n e on.reached.1 rule is) in
-      let may : EachMay AssignsOpen m.journal after.step = may-behind AssignsOpen [] m.journal after.step (subst (EachMay AssignsOpen []) after.is (firsts-are-open config files n checked reached)) in
+      let may : EachMay AssignsOpen m.journal after.step = may-behind AssignsOpen [] m.journal after.step
+      (subst (EachMay AssignsOpen []) after.is (firsts-are-open config files n checked reached)) in
       let opens : Each (OpenSeen m.journal) (seen_on q (net_of m.journal) after.step) =
-          list-opens m.journal q (net_of m.journal) after.step (each-opens m.journal m.journal after.step (λ k closed. closed) may) in
-      let more : (k : ℕ) → IsClosed m.journal k → IsClosed n.journal k = λ k closed. subst (λ (J : List Rec). IsClosed J k) (sym after.is) (closed-more m.journal after.step k closed) in
+      list-opens m.journal q (net_of m.journal) after.step (each-opens m.journal m.journal after.step (λ k closed. closed) may) in
+      let more : (k : ℕ) → IsClosed m.journal k → IsClosed n.journal k =
+      λ k closed. subst (λ (J : List Rec). IsClosed J k) (sym after.is) (closed-more m.journal after.step k closed) in
       let P : Conn → Move → Type 0 = λ x v. MayRestOn IsPlaced x → Goes x v in
       let goes : GoesBy (λ x v. IsConnNumber x.c × P x v) (conn m q) (conn n q) = goes-on config files P (going _) m n e on rule is q in
       ⊎_elim
@@ -196,7 +205,8 @@ module _ (config : Config) (files : List (List ℕ × List ℕ)) (checked : conf
       goes
 
   past-so : (m : Machine) → IsReached config files m → AllPast m
-  past-so = carried-keep config files AllPast (λ q. subst (IsPastSo []) (sym (start-blank config files q)) (record { closes = λ n decided. absurd decided; new = tt })) step-so
+  past-so = carried-keep config files AllPast
+      (λ q. subst (IsPastSo []) (sym (start-blank config files q)) (record { closes = λ n decided. absurd decided; new = tt })) step-so
 
 pub connections-go-to-new : ConnectionsGoToNew
 connections-go-to-new config files m checked r q = (past-so config files checked m r q).new
@@ -211,7 +221,8 @@ in-or-out n (x ∷ xs) = ⊎_elim
     (cases_eq x n)
 
 -- a node that was closed is not open
-pub closed-shut : (config : Config) (J : List Rec) (n : ℕ) → IsClosed J n → list_any (nat_eq n) (filter (λ k. not (is_node_closed J k)) (numbers config.nodes)) ≡ false
+closed-shut : (config : Config) (J : List Rec) (n : ℕ) → IsClosed J n
+    → list_any (nat_eq n) (filter (λ k. not (is_node_closed J k)) (numbers config.nodes)) ≡ false
 closed-shut config J n closed = ⊎_elim
     (λ (within : IsIn n (numbers config.nodes)). any-filter (λ k. not (is_node_closed J k)) n (numbers config.nodes) within ∙ ap not closed)
     (λ (out : IsIn n (numbers config.nodes) → ⊥). none-filter (λ k. not (is_node_closed J k)) n (numbers config.nodes) out)
@@ -220,5 +231,6 @@ closed-shut config J n closed = ⊎_elim
 pub past-is-closed : PastIsClosed
 past-is-closed config files m checked r q n decided = ⊎_elim
     (λ (at : IsAtOrOver n (whereabouts_of (conn m q))). inl at)
-    (λ (closed : IsClosed m.journal n). inr (ap (λ t. is_open t n) (books-are-told config files m checked r).0 ∙ ap (list_any (nat_eq n)) (told-open config m.journal) ∙ closed-shut config m.journal n closed))
+    (λ (closed : IsClosed m.journal n). inr (ap (λ t. is_open t n) (books-are-told config files m checked r).0
+    ∙ ap (list_any (nat_eq n)) (told-open config m.journal) ∙ closed-shut config m.journal n closed))
     ((past-so config files checked m r q).closes n decided)

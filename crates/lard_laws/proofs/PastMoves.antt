@@ -1,6 +1,6 @@
 -- What each rule does to where a connection is, and to what a node decided.
 use Rattle.std.proofs.Common.{◌≡◌, ◌⊎◌, ℕ, ◌+◌, true, false, List, [], ◌∷◌, ◌++◌, Option, Some, None, refl, sym, ap, ◌∙◌, subst, inl, inr, ⊎_elim, eqb-true}
-use Rattle.lard_law_view.specs.Prelude.{BackRow, ClientRules, Conn, ControlBlock, Ending, EndpointParts, Epoch, FirstChoice, Front, FrontConn, FrontDeed, FrontEnv, FrontGets, FrontPart, FrontRest, FrontRow, FrontRules, Has, MayRestOn, Move, Node, NodeDeed, NodeEnv, NodeGets, NodePart, NodeRules, Rec, Rules, Said, Seen, Setting, Stay, Work, after_timer, came_for, come_progress, front_does, front_fired, front_rest, front_rests, front_rule, goes_on, gone, is_away, kept_after, next_epoch, node_begins, node_does, node_put_back, node_rule, offer_answer, on_segment, read_progress, reads_batch, serving, serving_ready_of, serving_settled, spoken, state_of, tagged, taken_sent, timed, with_work, without, work_of}
+use Rattle.lard_law_view.specs.Prelude.{BackRow, ClientRules, Conn, ControlBlock, Ending, EndpointParts, Epoch, FirstChoice, Front, FrontConn, FrontDeed, FrontEnv, FrontGets, FrontPart, FrontRest, FrontRow, FrontRules, Has, MayRestOn, Move, Node, NodeDeed, NodeEnv, NodeGets, NodePart, NodeRules, Rec, Rules, Said, Seen, Setting, Stay, Turn, Work, after_timer, came_for, come_progress, front_does, front_fired, front_rest, front_rests, front_rule, goes_on, gone, is_away, kept_after, next_epoch, node_begins, node_does, node_put_back, node_rule, offer_answer, on_segment, read_progress, reads_batch, serving, serving_ready_of, serving_settled, spoken, state_of, tagged, taken_sent, timed, with_work, without, work_of}
 use Rattle.lard_base.specs.declared.place.TimerKind.TheVariants as kind
 use Rattle.lard_laws.specs.Past.{AtFront, AtNode, DecidedIn, Over, Whereabouts, stage_whereabouts, whereabouts, whereabouts_of}
 use Rattle.lard_law_connections.proofs.PlacesFrontMessages.{came-says}
@@ -52,47 +52,59 @@ module _ (env : FrontEnv) (p : FrontPart) where
   DeedGoes (Says turn) = Unit {0}
   DeedGoes (Does did) = FrontGoes c (whereabouts p.row) (whereabouts did.part.row) did.turn.notes
 
-  -- what was here stays here, or is closed
-  held-goes : (row : FrontRow) (rest : FrontRest) (ns : List Rec) → whereabouts p.row ≡ AtFront → (e : Ending) → FrontGoes c (whereabouts p.row) (whereabouts (front_rests p row rest stage.Held e).row) ns
-  held-goes row rest ns here (ending.Here b count) = Stays (sym here)
-  held-goes row rest ns here (ending.Over last) = Closes row.ended_by here refl
+  -- what the front end does with it, which notes this
+  abbrev Goes_to : Whereabouts → List Rec → Type 0
+  Goes_to q ns = FrontGoes c (whereabouts p.row) q ns
 
-  waits-goes : (row : FrontRow) (rest : FrontRest) (ns : List Rec) → whereabouts p.row ≡ AtFront → (e : Ending) → FrontGoes c (whereabouts p.row) (whereabouts (front_rests p row rest stage.Waiting e).row) ns
-  waits-goes row rest ns here (ending.Here b count) = Stays (sym here)
-  waits-goes row rest ns here (ending.Over last) = Closes row.ended_by here refl
+  -- what was here stays here, or is closed
+  held-goes : (row : FrontRow) (rest : FrontRest) (given : Ending × Turn) → whereabouts p.row ≡ AtFront → Goes_to (whereabouts (front_rests p row rest stage.Held given.0).row) given.1.notes
+  held-goes row rest given here = go given.0 where
+    go : (e : Ending) → Goes_to (whereabouts (front_rests p row rest stage.Held e).row) given.1.notes
+    go (ending.Here b count) = Stays (sym here)
+    go (ending.Over last) = Closes row.ended_by here refl
+
+  waits-goes : (row : FrontRow) (rest : FrontRest) (given : Ending × Turn) → whereabouts p.row ≡ AtFront
+      → Goes_to (whereabouts (front_rests p row rest stage.Waiting given.0).row) given.1.notes
+  waits-goes row rest given here = go given.0 where
+    go : (e : Ending) → Goes_to (whereabouts (front_rests p row rest stage.Waiting e).row) given.1.notes
+    go (ending.Here b count) = Stays (sym here)
+    go (ending.Over last) = Closes row.ended_by here refl
 
   -- it is handed off
+  abbrev assigned_to : ℕ → List ℕ → FirstChoice → Rec
+  assigned_to r path choice = rec.AssignedFirst c r path choice.node choice.add choice.remove
+
   hands-goes : (row : FrontRow) (ns : List Rec) (r : ℕ) (path : List ℕ) (choice : FirstChoice) → whereabouts p.row ≡ AtFront
-      → FrontGoes c (whereabouts p.row) (AtNode choice.node (next_epoch row).0) (ns ++ rec.Admitted c ∷ rec.AssignedFirst c r path choice.node choice.add choice.remove ∷ [])
+      → Goes_to (AtNode choice.node (next_epoch row).0) (ns ++ rec.Admitted c ∷ assigned_to r path choice ∷ [])
   hands-goes row ns r path choice here = Hands choice.node (next_epoch row).0 here refl (record {
     r = r;
     path = path;
     add = choice.add;
     remove = choice.remove;
-    noted = has-behind (rec.AssignedFirst c r path choice.node choice.add choice.remove) ns (rec.Admitted c ∷ rec.AssignedFirst c r path choice.node choice.add choice.remove ∷ []) (inr (inl refl));
+    noted = has-behind (assigned_to r path choice) ns (rec.Admitted c ∷ assigned_to r path choice ∷ []) (inr (inl refl));
   })
 
   by-segment : (bytes : List ℕ) (s : Said) → KeptBySegment env p bytes s (λ w o. Unit {0}) DeedGoes
   by-segment bytes s = record {
     drops = tt;
-    begins = λ none plain. held-goes begun_row (front_rest None) (spoken env.serve (begun_service env s) []).1.notes (ap whereabouts none) (spoken env.serve (begun_service env s) []).0;
+    begins = λ none plain. held-goes begun_row (front_rest None) (spoken env.serve (begun_service env s) []) (ap whereabouts none);
     reads = λ row b at. tt;
-    holds = λ row b w at r. held-goes row (front_rest p.rest) (serving_settled env.serve w).1.notes (in-stage p row (stage.Held b) at) (serving_settled env.serve w).0;
+    holds = λ row b w at r. held-goes row (front_rest p.rest) (serving_settled env.serve w) (in-stage p row (stage.Held b) at);
     hands = λ row b w path choice at r is. hands-goes row w.notes (w.count + 1) path choice (in-stage p row (stage.Held b) at);
-    waits = λ row b w path at r is. waits-goes row (record (front_rest p.rest) { target = Some path }) (spoken env.serve (waiting_service env w) []).1.notes (in-stage p row (stage.Held b) at)
-        (spoken env.serve (waiting_service env w) []).0;
-    stays = λ row b at. waits-goes row (front_rest p.rest) (spoken env.serve (heard_service p b s) []).1.notes (in-stage p row (stage.Waiting b) at) (spoken env.serve (heard_service p b s) []).0;
+    waits = λ row b w path at r is. waits-goes row (record (front_rest p.rest) { target = Some path }) (spoken env.serve (waiting_service env w) [])
+        (in-stage p row (stage.Held b) at);
+    stays = λ row b at. waits-goes row (front_rest p.rest) (spoken env.serve (heard_service p b s) []) (in-stage p row (stage.Waiting b) at);
     forwards = λ row n e at. tt;
     words = λ row last at. tt;
   }
 
   -- its stay ended
-  ends-goes : (epoch : ℕ) (row : FrontRow) (ns : List Rec) → p.row ≡ Some row → is_away epoch row.stage ≡ true → FrontGoes c (whereabouts p.row) (Over (Some (record { 0 = epoch }))) ns
+  ends-goes : (epoch : ℕ) (row : FrontRow) (ns : List Rec) → p.row ≡ Some row → is_away epoch row.stage ≡ true → Goes_to (Over (Some (record { 0 = epoch }))) ns
   ends-goes epoch row ns found away = go row.stage refl away where
-    ends-at : (n : ℕ) (e : Epoch) → whereabouts p.row ≡ AtNode n e.0 → e.0 ≡ epoch → FrontGoes c (whereabouts p.row) (Over (Some (record { 0 = epoch }))) ns
+    ends-at : (n : ℕ) (e : Epoch) → whereabouts p.row ≡ AtNode n e.0 → e.0 ≡ epoch → Goes_to (Over (Some (record { 0 = epoch }))) ns
     ends-at n e at same = Ends n epoch (at ∙ ap (AtNode n) same) refl
 
-    go : (st : FrontConn) → row.stage ≡ st → is_away epoch st ≡ true → FrontGoes c (whereabouts p.row) (Over (Some (record { 0 = epoch }))) ns
+    go : (st : FrontConn) → row.stage ≡ st → is_away epoch st ≡ true → Goes_to (Over (Some (record { 0 = epoch }))) ns
     go (stage.Offering n e) at is = ends-at n e (in-stage p row (stage.Offering n e) (found, at)) (eqb-true e.0 epoch is)
     go (stage.Moved n e) at is = ends-at n e (in-stage p row (stage.Moved n e) (found, at)) (eqb-true e.0 epoch is)
     go _ at is = let no : false ≡ true = is in absurd cc
@@ -103,8 +115,8 @@ module _ (env : FrontEnv) (p : FrontPart) where
     hears = λ bytes s m. by-segment bytes s;
     fires = λ m. record {
       drops = tt;
-      holds = λ row b at. held-goes row (front_rest p.rest) (front_fired env (front_rest p.rest) b).1.notes (in-stage p row (stage.Held b) at) (front_fired env (front_rest p.rest) b).0;
-      stays = λ row b at. waits-goes row (front_rest p.rest) (front_fired env (front_rest p.rest) b).1.notes (in-stage p row (stage.Waiting b) at) (front_fired env (front_rest p.rest) b).0;
+      holds = λ row b at. held-goes row (front_rest p.rest) (front_fired env (front_rest p.rest) b) (in-stage p row (stage.Held b) at);
+      stays = λ row b at. waits-goes row (front_rest p.rest) (front_fired env (front_rest p.rest) b) (in-stage p row (stage.Waiting b) at);
       resends = λ row n e at. tt;
     };
     takes = λ i epoch m row n e at same. Stays (ap (AtNode n) (sym same) ∙ sym (in-stage p row (stage.Offering n e) at));
@@ -142,7 +154,8 @@ module _ (x : Conn) (n epoch : ℕ) (env : NodeEnv) (heads : List Seen) (placed 
   NodeDeedGoes (node.Does given) = NodeGoes n (whereabouts_of x) p.row given.0.row
 
   here-there : (b : ControlBlock) (s : Stay) → IsHereWith env.epoch p b s → whereabouts_of x ≡ AtNode n env.epoch
-  here-there b s at = at-node x n env.epoch (with-node x placed n env.epoch b (at.found ∙ (λ i. Some (record { stage = at.staged i; epoch = record { 0 = at.epoch_is i } }))))
+  here-there b s at = at-node x n env.epoch
+      (with-node x placed n env.epoch b (at.found ∙ (λ i. Some (record { stage = at.staged i; epoch = record { 0 = at.epoch_is i } }))))
 
   -- what stays, and what ends, is of the epoch of its rule
   kept-in : (q : NodePart) (w : Work) (e : Ending) → DecidedIn env.epoch (kept_after env q w e).row
@@ -160,20 +173,24 @@ module _ (x : Conn) (n epoch : ℕ) (env : NodeEnv) (heads : List Seen) (placed 
     go (stage.Offering m d) offers = λ i. AtNode (offers.0 i) (offers.1 i)
     go _ offers = absurd offers
 
-  begins-there : (parts : EndpointParts) → HasCome x Front n epoch (body.Offer parts) heads → offer_answer env.epoch p.row ≡ New → whereabouts_of x ≡ AtNode n env.epoch
+  begins-there : (parts : EndpointParts) → HasCome x Front n epoch (body.Offer parts) heads → offer_answer env.epoch p.row ≡ New
+      → whereabouts_of x ≡ AtNode n env.epoch
   begins-there parts come new =
-      let said : IsDecided epoch p.row ⊎ IsOffered n epoch x.part.front.row = came-says x Front (Node n) epoch (body.Offer parts) come.bytes placed.letters come.was come.spells in
+      let said : IsDecided epoch p.row ⊎ IsOffered n epoch x.part.front.row =
+      came-says x Front (Node n) epoch (body.Offer parts) come.bytes placed.letters come.was come.spells in
       let offered : IsOffered n epoch x.part.front.row = ⊎_elim
-          (λ (d : IsDecided epoch p.row). absurd (not-decided epoch p.row (subst (λ (i : ℕ). offer_answer i p.row ≡ New) now new) d))
-          (λ (o : IsOffered n epoch x.part.front.row). o) said in
+      (λ (d : IsDecided epoch p.row). absurd (not-decided epoch p.row (subst (λ (i : ℕ). offer_answer i p.row ≡ New) now new) d))
+      (λ (o : IsOffered n epoch x.part.front.row). o) said in
       offered-there x.part.front.row offered ∙ ap (AtNode n) (sym now)
 
   rules_go : KeptByNode env p (NodeComes x n epoch heads) NodeDeedGoes
   rules_go = record {
     drops = tt;
     hears = λ said b s m at. works-go (here-there b s at) p [] (goes_on env (work_of (on_segment b said).1 s));
-    tags = λ number nodes b s m at asked same count. works-go (here-there b s at) (record p { kept = without kind.Ask 0 p.kept }) [] (goes_on env (tagged env nodes (work_of b s)));
-    comes = λ from r b s m at wanted. works-go (here-there b s at) (record p { fetches = without kind.Fetch r p.fetches }) [] (goes_on env (came_for (come_progress from) r (work_of b s)));
+    tags = λ number nodes b s m at asked same count.
+        works-go (here-there b s at) (record p { kept = without kind.Ask 0 p.kept }) [] (goes_on env (tagged env nodes (work_of b s)));
+    comes = λ from r b s m at wanted.
+        works-go (here-there b s at) (record p { fetches = without kind.Fetch r p.fetches }) [] (goes_on env (came_for (come_progress from) r (work_of b s)));
     reads = λ r path b s m at. works-go (here-there b s at) p [] (goes_on env (came_for read_progress r (work_of b s)));
     begins = λ parts m new. works-go (begins-there parts m new) p (taken_sent env) (goes_on env (state_of (reads_batch env true (node_begins env parts))));
     takes_again = λ parts m again. tt;
@@ -191,7 +208,8 @@ module _ (x : Conn) (n epoch : ℕ) (env : NodeEnv) (heads : List Seen) (placed 
 -- The front end moves it, and no node does; or a node does, and the front end does not.
 pub data Goes (x : Conn) (v : Move) : Type 0 where
   InFront : v.part.nodes ≡ x.part.nodes → FrontGoes x.c (whereabouts_of x) (whereabouts v.part.front.row) v.said.notes → Goes x v
-  InNode : (n : ℕ) (q : NodePart) → v.part.front ≡ x.part.front → v.part.nodes ≡ node_put_back x.part.nodes n q → NodeGoes n (whereabouts_of x) (x.part.nodes n).row q.row → Goes x v
+  InNode : (n : ℕ) (q : NodePart) → v.part.front ≡ x.part.front → v.part.nodes ≡ node_put_back x.part.nodes n q
+      → NodeGoes n (whereabouts_of x) (x.part.nodes n).row q.row → Goes x v
 
 front-moves : (x : Conn) (env : FrontEnv) (heads : List Seen) (d : FrontDeed) → env.serve.c ≡ x.c → DeedGoes env x.part.front d → Goes x (front_does x heads d)
 front-moves x env heads Drops number h = InFront refl (Stays refl)
@@ -199,8 +217,8 @@ front-moves x env heads (Says turn) number h = InFront refl (Stays refl)
 front-moves x env heads (Does did) number h = InFront refl (subst (λ (c : ℕ). FrontGoes c (whereabouts_of x) (whereabouts did.part.row) did.turn.notes) number h)
 
 -- with the record of a job in front, or none
-node-moves : (x : Conn) (n epoch : ℕ) (env : NodeEnv) (heads : List Seen) (g : NodeGets) (placed : IsPlaced x) (now : env.epoch ≡ epoch) (d : NodeDeed) → node_rule env (x.part.nodes n) g ≡ d
-    → NodeDeedGoes x n epoch env heads placed now d → Goes x (node_goes x n env heads g)
+node-moves : (x : Conn) (n epoch : ℕ) (env : NodeEnv) (heads : List Seen) (g : NodeGets) (placed : IsPlaced x) (now : env.epoch ≡ epoch) (d : NodeDeed)
+    → node_rule env (x.part.nodes n) g ≡ d → NodeDeedGoes x n epoch env heads placed now d → Goes x (node_goes x n env heads g)
 node-moves x n epoch env heads g placed now node.Drops is h =
     InFront (ap (λ d. (node_does x n heads d).part.nodes) is) (Stays (ap (λ d. whereabouts (node_does x n heads d).part.front.row) is))
 node-moves x n epoch env heads g placed now (node.Says messages) is h =
@@ -213,7 +231,10 @@ module _ (k : Setting) where
   Going x v = MayRestOn IsPlaced x → Goes x v
 
   clients : ClientRules k Going
-  clients = each-client k Going (record { opens = λ x isn iss wnd mss rule none may. InFront refl (Stays refl); does = λ x s g there comes may. InFront refl (Stays refl) })
+  clients = each-client k Going (record {
+    opens = λ x isn iss wnd mss rule none may. InFront refl (Stays refl);
+    does = λ x s g there comes may. InFront refl (Stays refl);
+  })
 
   fronts : FrontRules k Going
   fronts = each-front k Going (λ x env heads g is comes may. front-moves x env heads (front_rule env x.part.front g) is.number

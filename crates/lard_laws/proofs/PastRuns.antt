@@ -85,7 +85,8 @@ module _ (x : Conn) (placed : IsPlaced x) (n : ℕ) (q : NodePart) (goes : NodeG
       (was a e h)
 
 move-epochs : (x : Conn) (v : Move) → IsPlaced x → Goes x v → EpochsAreOfOneNode x → EpochsAreOfOneNode (grown x v)
-move-epochs x v placed (InFront same goes) one a b e h k = one a b e (subst (λ (nodes : ℕ → NodePart). DecidedIn e (nodes a).row) same h) (subst (λ (nodes : ℕ → NodePart). DecidedIn e (nodes b).row) same k)
+move-epochs x v placed (InFront same goes) one a b e h k = one a b e
+    (subst (λ (nodes : ℕ → NodePart). DecidedIn e (nodes a).row) same h) (subst (λ (nodes : ℕ → NodePart). DecidedIn e (nodes b).row) same k)
 move-epochs x v placed (InNode n q front same goes) one a b e h k = node-epochs x placed n q goes one a b e
     (subst (λ (nodes : ℕ → NodePart). DecidedIn e (nodes a).row) same h) (subst (λ (nodes : ℕ → NodePart). DecidedIn e (nodes b).row) same k)
 

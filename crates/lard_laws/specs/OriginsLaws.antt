@@ -5,5 +5,5 @@ use Rattle.lard_law_connections.specs.Places.{IsDecided}
 
 -- Each job of each disk is for a node that decided its connection in the epoch of the job, or in a later one.
 abbrev pub JobsComeFromHome : Type 0
-JobsComeFromHome = (config : Config) (files : List (List ℕ × List ℕ)) (m : Machine) → IsReached config files m → (i : ℕ) (s : NodeState) → node_at m.nodes i ≡ Some s
-    → (job : Job) → Has job s.disk → IsDecided job.epoch.0 ((conn m job.c).part.nodes job.origin).row
+JobsComeFromHome = (config : Config) (files : List (List ℕ × List ℕ)) (m : Machine) → IsReached config files m
+    → (i : ℕ) (s : NodeState) → node_at m.nodes i ≡ Some s → (job : Job) → Has job s.disk → IsDecided job.epoch.0 ((conn m job.c).part.nodes job.origin).row
