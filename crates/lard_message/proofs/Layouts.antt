@@ -9,10 +9,10 @@ use Rattle.lard_base.specs.Parts.{IsValidParts}
 use Rattle.lard_message.specs.declared.kind.Kind.{Kind}
 use Rattle.lard_message.specs.declared.kind.Kind.TheVariants as kind
 use Rattle.lard_message.specs.declared.message.Body.{Body}
-use Rattle.lard_message.specs.declared.message.Body.TheVariants.{Offer, Taken, Forward, Ask, Tag, Fetch, Content, Ended, EndedAck}
+use Rattle.lard_message.specs.declared.message.Body.TheVariants.{Offer, Taken, Forward, Ask, Tag, Fetch, Content, Ended, EndedAck, Refused, Give, Given}
 use Rattle.lard_message.specs.Laws.{AreBytes}
-use Rattle.lard_message.specs.Message.{IsOfTable, IsPath, FitsFields, kind_of, counted_bytes, flag_byte, reason_byte, parts_bytes, body_bytes}
-use Rattle.lard_message.specs.Reading.{◌>>=◌, flag_at, reason_at, byte_at, number_at, taken_at, counted_at, paths_at, nodes_of, parts_at, offer_at, ask_at, tag_at, fetch_at, content_at, ended_body_at, body_at}
+use Rattle.lard_message.specs.Message.{IsOfTable, IsPath, FitParts, FitsFields, kind_of, counted_bytes, flag_byte, reason_byte, parts_bytes, body_bytes}
+use Rattle.lard_message.specs.Reading.{◌>>=◌, flag_at, reason_at, byte_at, number_at, taken_at, counted_at, paths_at, nodes_of, parts_at, offer_at, give_at, ask_at, tag_at, fetch_at, content_at, ended_body_at, body_at}
 use Rattle.lard_message.proofs.Fields.{bind_some, bind_then, bind_to, some_same, wide16, wide32, number_takes, number_again, byte_takes, taken_takes, taken_again, counted_takes, counted_alone, flag_takes, flag_again, reason_takes, reason_again, paths_take, paths_again, nodes_are, nodes_again}
 
 -- what was read is a body of its kind, written so, whose numbers fit
@@ -23,7 +23,7 @@ pub record IsBodyAt (k : Kind) (bytes : List ℕ) (x : Body × List ℕ) : Type 
 
 -- ---- what was read
 
-parts_take : (bytes : List ℕ) (x : EndpointParts × List ℕ) → AreBytes bytes → parts_at bytes ≡ Some x → (bytes ≡ parts_bytes x.0 ++ x.1) × FitsFields (Offer x.0)
+parts_take : (bytes : List ℕ) (x : EndpointParts × List ℕ) → AreBytes bytes → parts_at bytes ≡ Some x → (bytes ≡ parts_bytes x.0 ++ x.1) × FitParts x.0
 unfolding parts_at
 parts_take bytes x fits e =
     bind_then (number_at w32 bytes) _ x e (λ irs e1 n1. bind_then (number_at w32 irs.1) _ x n1 (λ iss e2 n2. bind_then (number_at w32 iss.1) _ x n2 (λ got e3 n3.
@@ -60,7 +60,7 @@ parts_take bytes x fits e =
     t7.0.parts ∙ ap (λ (w : List ℕ). to_be_bytes w32 wl1.0 ++ w) (t8.0.parts ∙ ap (λ (w : List ℕ). to_be_bytes w32 wl2.0 ++ w) (t9.0.parts ∙ ap (λ (w : List ℕ). to_be_bytes w16 mss.0 ++ w) (
     t10.0.parts ∙ ap (λ (w : List ℕ). to_be_bytes w32 served.0 ++ w) t11.parts)))))))))
     in
-    subst (λ (y : EndpointParts × List ℕ). (bytes ≡ parts_bytes y.0 ++ y.1) × FitsFields (Offer y.0)) (some_same (p, unread.1) x n11) (whole, (t1.1, t2.1, t6.1, t7.1, t8.1)))))))))))))
+    subst (λ (y : EndpointParts × List ℕ). (bytes ≡ parts_bytes y.0 ++ y.1) × FitParts y.0) (some_same (p, unread.1) x n11) (whole, (t1.1, t2.1, t6.1, t7.1, t8.1)))))))))))))
 
 offer_takes : (bytes : List ℕ) (x : Body × List ℕ) → AreBytes bytes → offer_at bytes ≡ Some x → IsBodyAt kind.Offer bytes x
 unfolding offer_at
@@ -68,6 +68,13 @@ offer_takes bytes x fits e =
     let p = bind_some (parts_at bytes) _ x e in
     let t = parts_take bytes p.0 fits p.1 in
     subst (IsBodyAt kind.Offer bytes) (some_same (Offer p.0.0, p.0.1) x p.2) (record { kind = refl; parts = t.0; fits = t.1 })
+
+give_takes : (bytes : List ℕ) (x : Body × List ℕ) → AreBytes bytes → give_at bytes ≡ Some x → IsBodyAt kind.Give bytes x
+unfolding give_at
+give_takes bytes x fits e =
+    let p = bind_some (parts_at bytes) _ x e in
+    let t = parts_take bytes p.0 fits p.1 in
+    subst (IsBodyAt kind.Give bytes) (some_same (Give p.0.0, p.0.1) x p.2) (record { kind = refl; parts = t.0; fits = t.1 })
 
 ask_takes : (bytes : List ℕ) (x : Body × List ℕ) → AreBytes bytes → ask_at bytes ≡ Some x → IsBodyAt kind.Ask bytes x
 unfolding ask_at
@@ -153,10 +160,13 @@ body_takes kind.Fetch bytes x fits e = fetch_takes bytes x fits e
 body_takes kind.Content bytes x fits e = content_takes bytes x fits e
 body_takes kind.Ended bytes x fits e = ended_takes bytes x fits e
 body_takes kind.EndedAck bytes x fits e = subst (IsBodyAt kind.EndedAck bytes) (some_same (EndedAck, bytes) x e) (record { kind = refl; parts = refl; fits = tt })
+body_takes kind.Refused bytes x fits e = subst (IsBodyAt kind.Refused bytes) (some_same (Refused, bytes) x e) (record { kind = refl; parts = refl; fits = tt })
+body_takes kind.Give bytes x fits e = give_takes bytes x fits e
+body_takes kind.Given bytes x fits e = subst (IsBodyAt kind.Given bytes) (some_same (Given, bytes) x e) (record { kind = refl; parts = refl; fits = tt })
 
 -- ---- what was written
 
-parts_again : (p : EndpointParts) → IsValidParts p → FitsFields (Offer p) → parts_at (parts_bytes p) ≡ Some (p, [])
+parts_again : (p : EndpointParts) → IsValidParts p → FitParts p → parts_at (parts_bytes p) ≡ Some (p, [])
 unfolding parts_at
 parts_again p v f =
     let r11 : List ℕ = counted_bytes p.unread in
@@ -183,9 +193,13 @@ paths_fit : (ps : List (List ℕ)) → AllByRecursion IsPath ps → AllByRecursi
 paths_fit [] h = tt
 paths_fit (p ∷ ps) h = (omega (arith, h.0), paths_fit ps h.1)
 
-offer_again : (p : EndpointParts) → IsValidParts p → FitsFields (Offer p) → offer_at (parts_bytes p) ≡ Some (Offer p, [])
+offer_again : (p : EndpointParts) → IsValidParts p → FitParts p → offer_at (parts_bytes p) ≡ Some (Offer p, [])
 unfolding offer_at
 offer_again p v f = bind_to _ _ _ _ (parts_again p v f) refl
+
+give_again : (p : EndpointParts) → IsValidParts p → FitParts p → give_at (parts_bytes p) ≡ Some (Give p, [])
+unfolding give_at
+give_again p v f = bind_to _ _ _ _ (parts_again p v f) refl
 
 ask_again : (number queue size : ℕ) (paths : List (List ℕ)) → IsOfTable (Ask number queue size paths) → FitsFields (Ask number queue size paths)
     → ask_at (body_bytes (Ask number queue size paths)) ≡ Some (Ask number queue size paths, [])
@@ -235,3 +249,6 @@ body_again (Fetch r path) t f = fetch_again r path t f
 body_again (Content r bytes) t f = content_again r bytes (omega (arith, t)) f
 body_again (Ended reason snd rcv count) t f = ended_again reason snd rcv count f
 body_again EndedAck t f = refl
+body_again Refused t f = refl
+body_again (Give p) t f = give_again p t f
+body_again Given t f = refl

@@ -5,7 +5,7 @@ use Rattle.std.specs.List.{AllByRecursion}
 use Rattle.std.proofs.lemmas.List.Elements.{recursion_from_All}
 use Rattle.std.proofs.lemmas.Nat.{be_bytes_2, be_bytes_4, from_be_bytes-to_be_bytes_4}
 use Rattle.lard_message.specs.declared.message.Body.{Body}
-use Rattle.lard_message.specs.declared.message.Body.TheVariants.{Offer, Taken, Forward, Ask, Tag, Fetch, Content, Ended, EndedAck}
+use Rattle.lard_message.specs.declared.message.Body.TheVariants.{Offer, Taken, Forward, Ask, Tag, Fetch, Content, Ended, EndedAck, Refused, Give, Given}
 use Rattle.lard_message.specs.declared.message.Message.{Message}
 use Rattle.lard_message.specs.Laws.{AreBytes}
 use Rattle.lard_message.specs.Message.{IsMessage, IsOfTable, IsPath, counted_bytes, body_bytes, header_bytes, spelled_message}
@@ -27,6 +27,9 @@ length-body (Fetch r path) t = omega (arith, t)
 length-body (Content r bytes) t = omega (arith, t)
 length-body (Ended reason snd rcv count) t = omega arith
 length-body EndedAck t = omega arith
+length-body Refused t = omega arith
+length-body (Give p) t = omega (arith, t.buffered)
+length-body Given t = omega arith
 
 pub length-spelled : (m : Message) → length (spelled_message m) ≡ 10 + length (body_bytes m.body)
 unfolding spelled_message

@@ -9,7 +9,7 @@ use Rattle.lard_base.specs.declared.place.Reason.{Reason}
 use Rattle.lard_base.specs.declared.place.Reason.TheVariants.{Closed, Peer, Limit}
 use Rattle.lard_base.specs.Parts.{IsValidParts}
 use Rattle.lard_message.specs.declared.message.Body.{Body}
-use Rattle.lard_message.specs.declared.message.Body.TheVariants.{Offer, Taken, Forward, Ask, Tag, Fetch, Content, Ended, EndedAck}
+use Rattle.lard_message.specs.declared.message.Body.TheVariants.{Offer, Taken, Forward, Ask, Tag, Fetch, Content, Ended, EndedAck, Refused, Give, Given}
 use Rattle.lard_message.specs.Message.{IsOfTable, IsPath, IsCount}
 use Rattle.lard_message.specs.Reading.{is_of_table, is_message_path, is_count, are_parts}
 
@@ -72,6 +72,9 @@ table_passes (Fetch r path) h = path_passes path h
 table_passes (Content r bytes) h = le-leb _ _ h
 table_passes (Ended reason snd rcv count) h = count_passes reason count h
 table_passes EndedAck h = refl
+table_passes Refused h = refl
+table_passes (Give parts) h = parts_pass parts h
+table_passes Given h = refl
 
 pub table_passed : (b : Body) → is_of_table b ≡ true → IsOfTable b
 table_passed (Offer parts) h = parts_passed parts h
@@ -85,6 +88,9 @@ table_passed (Fetch r path) h = path_passed path h
 table_passed (Content r bytes) h = leb-true _ _ h
 table_passed (Ended reason snd rcv count) h = count_passed reason count h
 table_passed EndedAck h = tt
+table_passed Refused h = tt
+table_passed (Give parts) h = parts_passed parts h
+table_passed Given h = tt
 
 -- the test is the range
 pub table_test : (b : Body) (t : Bool) → t ≡ is_of_table b → IsTrue t ↔ IsOfTable b

@@ -1,5 +1,5 @@
 -- The laws: what was written is read again, what is read is spelled so, and a fault is the first that applies.
-use Rattle.std.proofs.Common.{◌≡◌, ℕ, ◌+◌, ◌^◌, ◌<◌, ◌≤◌, Bool, true, false, cond, not, ◌==◌, ◌&&◌, nat_lt, nat_le, List, [], ◌++◌, length, take, drop, Option, Some, None, Result, Ok, Err, IfOk, IfErr, refl, sym, ap, subst, ◌∙◌, arith, append-nil, length-append, length-drop, ltb-true, ltb-false, le-ltb, leb-true, le-leb, eqb-true, eq-eqb}
+use Rattle.std.proofs.Common.{◌≡◌, ℕ, ◌+◌, ◌^◌, ◌<◌, ◌≤◌, Bool, true, false, cond, not, ◌==◌, ◌&&◌, ◌||◌, nat_lt, nat_le, List, [], ◌++◌, length, take, drop, Option, Some, None, Result, Ok, Err, IfOk, IfErr, refl, sym, ap, subst, ◌∙◌, arith, append-nil, length-append, length-drop, ltb-true, ltb-false, le-ltb, leb-true, le-leb, eqb-true}
 use Rattle.std.proofs.lemmas.Bool.{cond-true, cond-false, and_parts, and_from, both_ways, not-false, not-true}
 use Rattle.std.proofs.lemmas.List.{nil_from_length}
 use Rattle.std.proofs.lemmas.Nat.{from_be_bytes-to_be_bytes_2}
@@ -10,7 +10,7 @@ use Rattle.lard_message.specs.declared.kind.Kind.{Kind}
 use Rattle.lard_message.specs.declared.kind.Kind.TheVariants as kind
 use Rattle.lard_message.specs.declared.message.Body.{Body}
 use Rattle.lard_message.specs.declared.message.Message.{Message}
-use Rattle.lard_message.specs.Kinds.{version_of, kind_number, is_version, first_kind, kind_named}
+use Rattle.lard_message.specs.Kinds.{version_of, kind_number, is_version, first_kind, second_kind, kind_named}
 use Rattle.lard_message.specs.Laws.{AreBytes, ReadsAgain, ReadsWhatIsSpelled, NamesTheFirstFault, SpellsOneMessage, NoneBeginsAnother, FitsAPacket}
 use Rattle.lard_message.specs.Message.{IsMessage, kind_of, body_bytes, header_bytes, spelled_message}
 use Rattle.lard_message.specs.Reading.{is_of_table, version_at, number_byte, connection_at, epoch_at, length_at, with_body, with_kind, body_at, decoded_message, GivesMessage}
@@ -22,7 +22,7 @@ use Rattle.lard_message.proofs.Tables.{table_passes, table_passed}
 
 -- ---- kinds and their numbers
 
-named_again : (k : Kind) → kind_named (version_of k) (kind_number k) ≡ Some k
+pub named_again : (k : Kind) → kind_named (version_of k) (kind_number k) ≡ Some k
 named_again kind.Offer = refl
 named_again kind.Taken = refl
 named_again kind.Forward = refl
@@ -32,27 +32,56 @@ named_again kind.Fetch = refl
 named_again kind.Content = refl
 named_again kind.Ended = refl
 named_again kind.EndedAck = refl
+named_again kind.Refused = refl
+named_again kind.Give = refl
+named_again kind.Given = refl
 
--- one kind of the table, or one behind it
-one_of : (t : Bool) (k : Kind) (others : Option Kind) (x : Kind) (n : ℕ) → (t ≡ true → kind_number k ≡ n) → (others ≡ Some x → kind_number x ≡ n) → cond t (Some k) others ≡ Some x → kind_number x ≡ n
-one_of true k others x n here there e = ap kind_number (sym (some_same k x e)) ∙ here refl
-one_of false k others x n here there e = there e
+-- the version of a kind is one
+pub version_again : (k : Kind) → is_version (version_of k) ≡ true
+version_again kind.Refused = refl
+version_again kind.Give = refl
+version_again kind.Given = refl
+version_again _ = refl
 
-none_of : (x : Kind) (n : ℕ) → None ≡ Some x → kind_number x ≡ n
-none_of x n e = absurd cc
+-- some kind has each version
+some_kind : (v : ℕ) → is_version v ≡ true → (k : Kind) × (version_of k ≡ v)
+some_kind v h = go (v == 1) (v == 2) refl refl h where
+  go : (t u : Bool) → (v == 1) ≡ t → (v == 2) ≡ u → (t || u) ≡ true → (k : Kind) × (version_of k ≡ v)
+  go true u p q h = (kind.Taken, sym (eqb-true v 1 p))
+  go false true p q h = (kind.Refused, sym (eqb-true v 2 q))
+  go false false p q h = absurd (cc)
 
-first_number : (n : ℕ) (x : Kind) → first_kind n ≡ Some x → kind_number x ≡ n
-first_number n x e =
-    one_of (n == 1) kind.Offer _ x n (λ t. sym (eqb-true n 1 t)) (one_of (n == 2) kind.Taken _ x n (λ t. sym (eqb-true n 2 t)) (one_of (n == 4) kind.Forward _ x n (λ t. sym (eqb-true n 4 t)) (
-    one_of (n == 5) kind.Ask _ x n (λ t. sym (eqb-true n 5 t)) (one_of (n == 6) kind.Tag _ x n (λ t. sym (eqb-true n 6 t)) (one_of (n == 7) kind.Fetch _ x n (λ t. sym (eqb-true n 7 t)) (
-    one_of (n == 8) kind.Content _ x n (λ t. sym (eqb-true n 8 t)) (one_of (n == 9) kind.Ended _ x n (λ t. sym (eqb-true n 9 t)) (one_of (n == 10) kind.EndedAck _ x n (λ t. sym (eqb-true n 10 t))
-    (none_of x n))))))))) e
+-- the kind with this version and number
+abbrev IsNamed : ℕ → ℕ → Kind → Type 0
+IsNamed v n x = (version_of x ≡ v) × (kind_number x ≡ n)
 
-named_is : (v n : ℕ) (x : Kind) → kind_named v n ≡ Some x → (version_of x ≡ v) × (kind_number x ≡ n)
-named_is v n x e = go (v == 1) refl e where
-  go : (t : Bool) → (v == 1) ≡ t → cond t (first_kind n) None ≡ Some x → (version_of x ≡ v) × (kind_number x ≡ n)
-  go true p h = (sym (eqb-true v 1 p), first_number n x h)
-  go false p h = let none : None ≡ Some x = h in absurd cc
+-- one kind of a table, or one behind it
+one_of : (t : Bool) (k : Kind) (others : Option Kind) (v n : ℕ) (x : Kind) → version_of k ≡ v → (t ≡ true → kind_number k ≡ n) → (others ≡ Some x → IsNamed v n x) → cond t (Some k) others ≡ Some x → IsNamed v n x
+one_of true k others v n x version here there e = subst (IsNamed v n) (some_same k x e) (version, here refl)
+one_of false k others v n x version here there e = there e
+
+none_of : (v n : ℕ) (x : Kind) → None ≡ Some x → IsNamed v n x
+none_of v n x e = absurd cc
+
+first_is : (n : ℕ) (x : Kind) → first_kind n ≡ Some x → IsNamed 1 n x
+first_is n x e =
+    one_of (n == 1) kind.Offer _ 1 n x refl (λ t. sym (eqb-true n 1 t)) (one_of (n == 2) kind.Taken _ 1 n x refl (λ t. sym (eqb-true n 2 t)) (
+    one_of (n == 4) kind.Forward _ 1 n x refl (λ t. sym (eqb-true n 4 t)) (one_of (n == 5) kind.Ask _ 1 n x refl (λ t. sym (eqb-true n 5 t)) (
+    one_of (n == 6) kind.Tag _ 1 n x refl (λ t. sym (eqb-true n 6 t)) (one_of (n == 7) kind.Fetch _ 1 n x refl (λ t. sym (eqb-true n 7 t)) (
+    one_of (n == 8) kind.Content _ 1 n x refl (λ t. sym (eqb-true n 8 t)) (one_of (n == 9) kind.Ended _ 1 n x refl (λ t. sym (eqb-true n 9 t)) (
+    one_of (n == 10) kind.EndedAck _ 1 n x refl (λ t. sym (eqb-true n 10 t)) (none_of 1 n x))))))))) e
+
+second_is : (n : ℕ) (x : Kind) → second_kind n ≡ Some x → IsNamed 2 n x
+second_is n x e =
+    one_of (n == 3) kind.Refused _ 2 n x refl (λ t. sym (eqb-true n 3 t)) (one_of (n == 11) kind.Give _ 2 n x refl (λ t. sym (eqb-true n 11 t)) (
+    one_of (n == 12) kind.Given _ 2 n x refl (λ t. sym (eqb-true n 12 t)) (none_of 2 n x))) e
+
+named_is : (v n : ℕ) (x : Kind) → kind_named v n ≡ Some x → IsNamed v n x
+named_is v n x e = go (v == 1) (v == 2) refl refl e where
+  go : (t u : Bool) → (v == 1) ≡ t → (v == 2) ≡ u → cond t (first_kind n) (cond u (second_kind n) None) ≡ Some x → IsNamed v n x
+  go true u p q h = let is = first_is n x h in (is.0 ∙ sym (eqb-true v 1 p), is.1)
+  go false true p q h = let is = second_is n x h in (is.0 ∙ sym (eqb-true v 2 q), is.1)
+  go false false p q h = let none : None ≡ Some x = h in absurd cc
 
 -- ---- what was written is read again
 
@@ -68,6 +97,7 @@ again m h =
     let most : connection_at bytes ≤ MAX = omega (arith, c, h.connection) in
     let in_range : (nat_le 1 (connection_at bytes) && nat_le (connection_at bytes) MAX) ≡ true = and_from _ _ (le-leb 1 (connection_at bytes) some) (le-leb (connection_at bytes) MAX most) in
     cond-false (nat_lt (length bytes) 10) _ _ (le-ltb _ _ (omega arith))
+    ∙ cond-false (not (is_version (version_at bytes))) _ _ (ap not (version_again (kind_of m.body)))
     ∙ ap (with_kind bytes) (named_again (kind_of m.body))
     ∙ cond-false (nat_lt (length bytes) (10 + length_at bytes)) _ _ (le-ltb _ _ (omega (arith, len)))
     ∙ cond-false (nat_lt (10 + length_at bytes) (length bytes)) _ _ (le-ltb _ _ (omega (arith, len)))
@@ -169,9 +199,9 @@ module _ (bytes : List ℕ) (e : MsgFault) (whole : decoded_message bytes ≡ Er
 
   kind_fault : (o : Option Kind) → kind_named (version_at bytes) (number_byte bytes) ≡ o → is_version (version_at bytes) ≡ true → with_kind bytes o ≡ Err e → IsFirstFault bytes e
   kind_fault None named v h =
-      let known : version_of kind.Taken ≡ version_at bytes = sym (eqb-true (version_at bytes) 1 v) in
+      let known = some_kind (version_at bytes) v in
       let none : Applies fault.Kind bytes = λ k p q. let both : Some k ≡ None = sym (named_again k) ∙ ap (λ (x : ℕ). kind_named x (kind_number k)) p ∙ ap (kind_named (version_at bytes)) q ∙ named in cc in
-      subst (IsFirstFault bytes) (err_same fault.Kind e h) (none, (not_short, ((λ f. f kind.Taken known), tt)))
+      subst (IsFirstFault bytes) (err_same fault.Kind e h) (none, (not_short, ((λ f. f known.0 known.1), tt)))
   kind_fault (Some k) named v h =
       let is = named_is (version_at bytes) (number_byte bytes) k named in
       let versioned : Applies fault.Version bytes → ⊥ = λ f. f k is.0 in
@@ -192,7 +222,7 @@ first_fault bytes e h =
     stopped (nat_lt (length bytes) 10) fault.Short e _ (IsFirstFault bytes) (λ t. (ltb-true _ _ t, tt)) (λ t h1.
     let long : 10 ≤ length bytes = ltb-false _ _ t in
     let short : Applies fault.Short bytes → ⊥ = not_short bytes e h long in
-    stopped (not (is_version (version_at bytes))) fault.Version e _ (IsFirstFault bytes) (λ u. (λ k v. both_ways (is_version (version_at bytes)) (not-true _ u) (eq-eqb (version_at bytes) 1 (sym v)), (short, tt)))
+    stopped (not (is_version (version_at bytes))) fault.Version e _ (IsFirstFault bytes) (λ u. (λ k v. both_ways (is_version (version_at bytes)) (not-true _ u) (sym (ap is_version v) ∙ version_again k), (short, tt)))
     (λ u h2. kind_fault bytes e h long (kind_named (version_at bytes) (number_byte bytes)) refl (not-false _ u) h2) h1) h
 
 -- ---- one spelling

@@ -1,14 +1,16 @@
 -- The kinds of messages. Each has a version, and a number that names it there. A later version is further kinds, with
--- cases of their own in the four functions below.
-use Rattle.std.specs.Prelude.{ℕ, Bool, ◌==◌, Option, Some, None, if◌then◌else◌}
+-- cases of their own in the functions below and a table of its own.
+use Rattle.std.specs.Prelude.{ℕ, Bool, ◌==◌, ◌||◌, Option, Some, None, if◌then◌else◌}
 use Rattle.lard_message.specs.declared.kind.Kind.{Kind}
-use Rattle.lard_message.specs.declared.kind.Kind.TheVariants.{Offer, Taken, Forward, Ask, Tag, Fetch, Content, Ended, EndedAck}
+use Rattle.lard_message.specs.declared.kind.Kind.TheVariants.{Offer, Taken, Forward, Ask, Tag, Fetch, Content, Ended, EndedAck, Refused, Give, Given}
 
--- all kinds so far are of the first version
+-- the second version came with the kinds of connections that come back
 abbrev pub version_of : Kind → ℕ
-version_of kind = 1
+version_of Refused = 2
+version_of Give = 2
+version_of Given = 2
+version_of _ = 1
 
--- 3, 11 and 12 are kept for the second version
 abbrev pub kind_number : Kind → ℕ
 kind_number Offer = 1
 kind_number Taken = 2
@@ -19,10 +21,13 @@ kind_number Fetch = 7
 kind_number Content = 8
 kind_number Ended = 9
 kind_number EndedAck = 10
+kind_number Refused = 3
+kind_number Give = 11
+kind_number Given = 12
 
 -- whether some kind has this version
 abbrev pub is_version : ℕ → Bool
-is_version version = version == 1
+is_version version = version == 1 || version == 2
 
 -- the kind of the first version with this number
 abbrev pub first_kind : ℕ → Option Kind
@@ -38,6 +43,17 @@ first_kind n =
     else if n == 10 then Some EndedAck
     else None
 
+-- the kind of the second version with this number
+abbrev pub second_kind : ℕ → Option Kind
+second_kind n =
+    if n == 3 then Some Refused
+    else if n == 11 then Some Give
+    else if n == 12 then Some Given
+    else None
+
 -- the kind with this version and number
 abbrev pub kind_named : ℕ → ℕ → Option Kind
-kind_named version number = if version == 1 then first_kind number else None
+kind_named version number =
+    if version == 1 then first_kind number
+    else if version == 2 then second_kind number
+    else None

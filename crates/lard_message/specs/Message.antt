@@ -12,7 +12,7 @@ use Rattle.lard_base.specs.Parts.{IsValidParts}
 use Rattle.lard_message.specs.declared.kind.Kind.{Kind}
 use Rattle.lard_message.specs.declared.kind.Kind.TheVariants as kind
 use Rattle.lard_message.specs.declared.message.Body.{Body}
-use Rattle.lard_message.specs.declared.message.Body.TheVariants.{Offer, Taken, Forward, Ask, Tag, Fetch, Content, Ended, EndedAck}
+use Rattle.lard_message.specs.declared.message.Body.TheVariants.{Offer, Taken, Forward, Ask, Tag, Fetch, Content, Ended, EndedAck, Refused, Give, Given}
 use Rattle.lard_message.specs.declared.message.Message.{Message}
 use Rattle.lard_message.specs.Kinds.{kind_number, version_of}
 
@@ -28,6 +28,9 @@ kind_of (Fetch r path) = kind.Fetch
 kind_of (Content r bytes) = kind.Content
 kind_of (Ended reason snd rcv count) = kind.Ended
 kind_of EndedAck = kind.EndedAck
+kind_of Refused = kind.Refused
+kind_of (Give parts) = kind.Give
+kind_of Given = kind.Given
 
 abbrev pub IsPath : List ℕ → Type 0
 IsPath path = (1 ≤ length path) × (length path ≤ MAX_PATH_BYTES)
@@ -49,14 +52,21 @@ IsOfTable (Fetch r path) = IsPath path
 IsOfTable (Content r bytes) = length bytes ≤ MAX_FILE_BYTES
 IsOfTable (Ended reason snd rcv count) = IsCount reason count
 IsOfTable EndedAck = Unit {0}
+IsOfTable Refused = Unit {0}
+IsOfTable (Give parts) = IsValidParts parts
+IsOfTable Given = Unit {0}
 
 -- A node has a number of its range.
 abbrev pub IsNodeNumber : ℕ → Type 0
 IsNodeNumber n = (1 ≤ n) × (n ≤ 64)
 
+-- Those numbers of an endpoint's parts that no range bounds fit their fields.
+abbrev pub FitParts : EndpointParts → Type 0
+FitParts parts = (parts.irs < 2 ^ 32) × (parts.iss < 2 ^ 32) × (parts.wnd < 2 ^ 16) × (parts.wl1 < 2 ^ 32) × (parts.wl2 < 2 ^ 32)
+
 -- Each number fits its field, which in the code its type says.
 abbrev pub FitsFields : Body → Type 0
-FitsFields (Offer parts) = (parts.irs < 2 ^ 32) × (parts.iss < 2 ^ 32) × (parts.wnd < 2 ^ 16) × (parts.wl1 < 2 ^ 32) × (parts.wl2 < 2 ^ 32)
+FitsFields (Offer parts) = FitParts parts
 FitsFields Taken = Unit {0}
 FitsFields (Forward bytes) = Unit {0}
 FitsFields (Ask number queue size paths) = (number < 2 ^ 32) × (queue < 2 ^ 32)
@@ -65,6 +75,9 @@ FitsFields (Fetch r path) = r < 2 ^ 32
 FitsFields (Content r bytes) = r < 2 ^ 32
 FitsFields (Ended reason snd rcv count) = (snd < 2 ^ 32) × (rcv < 2 ^ 32) × (count < 2 ^ 32)
 FitsFields EndedAck = Unit {0}
+FitsFields Refused = Unit {0}
+FitsFields (Give parts) = FitParts parts
+FitsFields Given = Unit {0}
 
 -- what has a spelling
 pub record IsMessage (m : Message) : Type 0 where
@@ -101,6 +114,7 @@ first_numbers p = to_be_bytes w32 p.irs ++ to_be_bytes w32 p.iss ++ to_be_bytes 
 abbrev pub second_numbers : EndpointParts → List ℕ
 second_numbers p = to_be_bytes w16 p.wnd ++ to_be_bytes w32 p.wl1 ++ to_be_bytes w32 p.wl2 ++ to_be_bytes w16 p.mss ++ to_be_bytes w32 p.served
 
+-- in an Offer as in a Give
 abbrev pub parts_bytes : EndpointParts → List ℕ
 parts_bytes p = parts_numbers p ++ counted_bytes p.unread
 
@@ -114,6 +128,9 @@ body_bytes (Fetch r path) = to_be_bytes w32 r ++ counted_bytes path
 body_bytes (Content r bytes) = to_be_bytes w32 r ++ to_be_bytes w32 (length bytes) ++ bytes
 body_bytes (Ended reason snd rcv count) = reason_byte reason ∷ to_be_bytes w32 snd ++ to_be_bytes w32 rcv ++ to_be_bytes w32 count
 body_bytes EndedAck = []
+body_bytes Refused = []
+body_bytes (Give parts) = parts_bytes parts
+body_bytes Given = []
 
 -- ten bytes
 abbrev pub header_bytes : ℕ → ℕ → ℕ → ℕ → ℕ → List ℕ

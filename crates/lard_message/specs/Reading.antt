@@ -12,7 +12,7 @@ use Rattle.lard_message.specs.declared.fault.MsgFault.TheVariants as fault
 use Rattle.lard_message.specs.declared.kind.Kind.{Kind}
 use Rattle.lard_message.specs.declared.kind.Kind.TheVariants as kind
 use Rattle.lard_message.specs.declared.message.Body.{Body}
-use Rattle.lard_message.specs.declared.message.Body.TheVariants.{Offer, Taken, Forward, Ask, Tag, Fetch, Content, Ended, EndedAck}
+use Rattle.lard_message.specs.declared.message.Body.TheVariants.{Offer, Taken, Forward, Ask, Tag, Fetch, Content, Ended, EndedAck, Refused, Give, Given}
 use Rattle.lard_message.specs.declared.message.Message.{Message}
 use Rattle.lard_message.specs.Kinds.{is_version, kind_named}
 
@@ -150,6 +150,11 @@ offer_at bytes = do
   parts ← parts_at bytes
   Some (Offer parts.0, parts.1)
 
+unfoldable pub give_at : List ℕ → Option (Body × List ℕ)
+give_at bytes = do
+  parts ← parts_at bytes
+  Some (Give parts.0, parts.1)
+
 unfoldable pub ask_at : List ℕ → Option (Body × List ℕ)
 ask_at bytes = do
   number ← number_at w32 bytes
@@ -199,6 +204,9 @@ body_at kind.Fetch bytes = fetch_at bytes
 body_at kind.Content bytes = content_at bytes
 body_at kind.Ended bytes = ended_body_at bytes
 body_at kind.EndedAck bytes = Some (EndedAck, bytes)
+body_at kind.Refused bytes = Some (Refused, bytes)
+body_at kind.Give bytes = give_at bytes
+body_at kind.Given bytes = Some (Given, bytes)
 
 -- ---- the ranges, as tests
 
@@ -225,6 +233,9 @@ is_of_table (Fetch r path) = is_message_path path
 is_of_table (Content r bytes) = nat_le (length bytes) MAX_FILE_BYTES
 is_of_table (Ended reason snd rcv count) = is_count reason count
 is_of_table EndedAck = true
+is_of_table Refused = true
+is_of_table (Give parts) = are_parts parts
+is_of_table Given = true
 
 -- ---- the whole
 

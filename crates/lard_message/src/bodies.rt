@@ -1,7 +1,7 @@
 //! Bodies, each read with the bytes after it, or `Field` where there is none.
 
 ghost use Rattle.std.specs.Prelude.{◌≡◌};
-ghost use Rattle.lard_message.specs.Reading.{Reads, counted_at, taken_at, parts_at, parts_behind, offer_at, ask_at, tag_at, fetch_at, content_at, ended_body_at, body_at};
+ghost use Rattle.lard_message.specs.Reading.{Reads, counted_at, taken_at, parts_at, parts_behind, offer_at, give_at, ask_at, tag_at, fetch_at, content_at, ended_body_at, body_at};
 
 use crate::fault::MsgFault;
 use crate::kind::Kind;
@@ -26,6 +26,9 @@ pub fn body(alloc: Global, kind: Kind, bytes: &[u8]) -> Result<(Body, &[u8]), Ms
         Kind::Content => return content(alloc, bytes),
         Kind::Ended => return ended(bytes),
         Kind::EndedAck => return Ok((Body::EndedAck, bytes)),
+        Kind::Refused => return Ok((Body::Refused, bytes)),
+        Kind::Give => return give(alloc, bytes),
+        Kind::Given => return Ok((Body::Given, bytes)),
     }
 }
 
@@ -83,6 +86,14 @@ fn offer(alloc: Global, bytes: &[u8]) -> Result<(Body, &[u8]), MsgFault>
 {
     let (parts, rest) = parts(alloc, bytes)?;
     Ok((Body::Offer(parts), rest))
+}
+
+#[tactic(auto, unfolding(crate::specs::Reading::give_at))]
+fn give(alloc: Global, bytes: &[u8]) -> Result<(Body, &[u8]), MsgFault>
+    ensures { Reads (λ x. (x.0, x.1.now)) result (give_at bytes.now) }
+{
+    let (parts, rest) = parts(alloc, bytes)?;
+    Ok((Body::Give(parts), rest))
 }
 
 #[tactic(auto, unfolding(crate::specs::Reading::ask_at))]

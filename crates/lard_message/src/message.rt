@@ -72,6 +72,12 @@ pub enum Body {
     },
     /// The front end knows of the end.
     EndedAck,
+    /// The node leaves, and does not take the connection.
+    Refused,
+    /// The node leaves, and gives the connection back to the front end.
+    Give(EndpointParts),
+    /// The front end has the connection again.
+    Given,
 }
 
 impl Body {
@@ -89,6 +95,9 @@ impl Body {
             Body::Content { .. } => Kind::Content,
             Body::Ended { .. } => Kind::Ended,
             Body::EndedAck => Kind::EndedAck,
+            Body::Refused => Kind::Refused,
+            Body::Give(_) => Kind::Give,
+            Body::Given => Kind::Given,
         }
     }
 
@@ -120,6 +129,9 @@ pub fn passes(body: &Body) -> bool
         Body::Content { bytes, .. } => bytes.len() <= MAX_FILE_BYTES,
         Body::Ended { reason, count, .. } => is_count(*reason, *count),
         Body::EndedAck => true,
+        Body::Refused => true,
+        Body::Give(parts) => are_parts(parts),
+        Body::Given => true,
     }
 }
 

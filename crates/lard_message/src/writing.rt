@@ -14,7 +14,7 @@ use byteorder::{BigEndian, ByteOrder};
 use lard_base::{Bytes, EndpointParts, NoMemory, NodeId, Path, Reason};
 use std::alloc::Global;
 
-/// How many bytes the numbers of an Offer take.
+/// How many bytes the numbers of an endpoint's parts take.
 const NUMBERS_BYTES: usize = 33;
 
 /// The one spelling of the message, at most 2^21 bytes. Its numbers and lengths are in their ranges, as
@@ -39,7 +39,7 @@ fn body_len(body: &Body) -> usize
     ensures small { result ≤ 1048584 }
 {
     match body {
-        Body::Offer(parts) => NUMBERS_BYTES + 2 + parts.unread.len(),
+        Body::Offer(parts) => parts_len(parts),
         Body::Taken => 0,
         Body::Forward(bytes) => bytes.len(),
         Body::Ask { paths, .. } => 10 + paths_len(paths.as_slice()),
@@ -48,7 +48,19 @@ fn body_len(body: &Body) -> usize
         Body::Content { bytes, .. } => 8 + bytes.len(),
         Body::Ended { .. } => 13,
         Body::EndedAck => 0,
+        Body::Refused => 0,
+        Body::Give(parts) => parts_len(parts),
+        Body::Given => 0,
     }
+}
+
+/// How many bytes an endpoint's parts take.
+fn parts_len(parts: &EndpointParts) -> usize
+    requires { IsValidParts parts.now }
+    ensures value { result ≡ length (parts_bytes parts.now) }
+    ensures small { result ≤ 16419 }
+{
+    NUMBERS_BYTES + 2 + parts.unread.len()
 }
 
 /// How many bytes the paths of an Ask take, each behind its length.
@@ -121,9 +133,13 @@ fn put_body(out: &mut Vec<u8>, body: &Body) -> Result<(), NoMemory>
             return put_number(out, *count);
         }
         Body::EndedAck => return Ok(()),
+        Body::Refused => return Ok(()),
+        Body::Give(parts) => return put_parts(out, parts),
+        Body::Given => return Ok(()),
     }
 }
 
+/// An endpoint's parts.
 fn put_parts(out: &mut Vec<u8>, parts: &EndpointParts) -> Result<(), NoMemory>
     requires { IsValidParts parts.now }
     ensures { OnOk result (out.new.items ≡ out.old.items ++ parts_bytes parts.now) }
@@ -134,7 +150,7 @@ fn put_parts(out: &mut Vec<u8>, parts: &EndpointParts) -> Result<(), NoMemory>
     put_counted(out, unread)
 }
 
-/// The first half of an Offer's numbers.
+/// The first half of the numbers of an endpoint's parts.
 fn put_first(out: &mut Vec<u8>, parts: &EndpointParts) -> Result<(), NoMemory>
     ensures { OnOk result (out.new.items ≡ out.old.items ++ first_numbers parts.now) }
 {

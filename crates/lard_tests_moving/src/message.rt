@@ -37,12 +37,12 @@ const REFUSED: &[(&str, &[u8], MsgFault)] = &[
     ),
     (
         "nine bytes of another version",
-        b"\x02\x02\x00\x01\x00\x02\x00\x00\x00",
+        b"\x03\x02\x00\x01\x00\x02\x00\x00\x00",
         MsgFault::Short,
     ),
     (
-        "the second version",
-        b"\x02\x02\x00\x01\x00\x02\x00\x00\x00\x00",
+        "the third version",
+        b"\x03\x01\x00\x01\x00\x02\x00\x00\x00\x00",
         MsgFault::Version,
     ),
     (
@@ -56,13 +56,28 @@ const REFUSED: &[(&str, &[u8], MsgFault)] = &[
         MsgFault::Kind,
     ),
     (
-        "kind 3",
+        "kind 3 of the first version",
         b"\x01\x03\x00\x01\x00\x02\x00\x00\x00\x00",
         MsgFault::Kind,
     ),
     (
-        "kind 11, and a byte too few",
+        "kind 11 of the first version, and a byte too few",
         b"\x01\x0b\x00\x01\x00\x02\x00\x00\x00\x01",
+        MsgFault::Kind,
+    ),
+    (
+        "kind 12 of the first version",
+        b"\x01\x0c\x00\x01\x00\x02\x00\x00\x00\x00",
+        MsgFault::Kind,
+    ),
+    (
+        "kind 2 of the second version",
+        b"\x02\x02\x00\x01\x00\x02\x00\x00\x00\x00",
+        MsgFault::Kind,
+    ),
+    (
+        "kind 13 of the second version",
+        b"\x02\x0d\x00\x01\x00\x02\x00\x00\x00\x00",
         MsgFault::Kind,
     ),
     (
@@ -118,6 +133,21 @@ const REFUSED: &[(&str, &[u8], MsgFault)] = &[
     (
         "an Offer with a byte behind its unread ones",
         b"\x01\x01\x00\x01\x00\x04\x00\x00\x00\x24\x00\x00\x03\xe8\x00\x00\x13\x88\x00\x00\x00\x1f\x01\x00\x00\x00\x2c\xff\xff\x00\x00\x04\x08\x00\x00\x13\xb4\x05\xb4\x00\x00\x00\x01\x00\x00\x47",
+        MsgFault::Field,
+    ),
+    (
+        "a Refused with a byte",
+        b"\x02\x03\x00\x01\x00\x02\x00\x00\x00\x01\x00",
+        MsgFault::Field,
+    ),
+    (
+        "a Give that answered more than it got",
+        b"\x02\x0b\x00\x01\x00\x02\x00\x00\x00\x23\x00\x00\x03\xe8\x00\x00\x13\x88\x00\x00\x00\x1f\x00\x00\x00\x00\x2c\xff\xff\x00\x00\x04\x08\x00\x00\x13\xb4\x05\xb4\x00\x00\x00\x20\x00\x00",
+        MsgFault::Field,
+    ),
+    (
+        "a Give with a byte behind its unread ones",
+        b"\x02\x0b\x00\x01\x00\x02\x00\x00\x00\x24\x00\x00\x03\xe8\x00\x00\x13\x88\x00\x00\x00\x1f\x00\x00\x00\x00\x2c\xff\xff\x00\x00\x04\x08\x00\x00\x13\xb4\x05\xb4\x00\x00\x00\x01\x00\x00\x47",
         MsgFault::Field,
     ),
     (
@@ -270,6 +300,33 @@ fn words_of_a_move_are_spelled(rt: HostRuntime) {
     };
     spells(&rt, rt.alloc(), 16_384, 65_535, over, OVER);
     spells(&rt, rt.alloc(), 1, 2, Body::EndedAck, ENDED_ACK);
+}
+
+const REFUSAL: &[u8] = b"\x02\x03\x00\x01\x00\x02\x00\x00\x00\x00";
+
+const GIVE: &[u8] =
+    b"\x02\x0b\x00\x01\x00\x02\x00\x00\x00\x23\x00\x00\x03\xe8\x00\x00\x13\x88\x00\x00\x00\x1f\x00\x00\x00\x00\x2c\xff\xff\x00\x00\x04\x08\x00\x00\x13\xb4\x05\xb4\x00\x00\x00\x01\x00\x00";
+
+const GIVEN: &[u8] = b"\x02\x0c\x00\x01\x00\x02\x00\x00\x00\x00";
+
+#[test]
+fn words_of_a_move_back_are_spelled(rt: HostRuntime) {
+    spells(&rt, rt.alloc(), 1, 2, Body::Refused, REFUSAL);
+    let parts = EndpointParts {
+        irs: 1000,
+        iss: 5000,
+        got: 31,
+        fin: false,
+        una: 44,
+        wnd: 65_535,
+        wl1: 1032,
+        wl2: 5044,
+        mss: 1460,
+        served: 1,
+        unread: bytes(&rt, rt.alloc(), b""),
+    };
+    spells(&rt, rt.alloc(), 1, 2, Body::Give(parts), GIVE);
+    spells(&rt, rt.alloc(), 1, 2, Body::Given, GIVEN);
 }
 
 /// Seven paths.
