@@ -26,7 +26,7 @@ first_row = record { stage = stage.Lent; epoch = record { 0 = 1 }; ended_by = No
 
 -- nothing was done on a connection that listens
 pub listens_serve : (syn : Said) (iss : ℕ) → Serves 0 (listening syn iss).recv (listening syn iss).send
-listens_serve syn iss = record { counted = omega arith; asked = omega arith; most = omega arith; sent = omega arith }
+listens_serve syn iss = record { asked = omega arith; most = omega arith; sent = omega arith }
 
 module _ (s : FrontState) (c : ℕ) (syn : Said) (iss : ℕ) {m : Fronts} {r : FinMap nat_cmp FrontRest} {k : ℕ} {x : FrontRest}
     (kept : m ≡ table.insert s.conns c (row_begun (listening syn iss))) (put : r ≡ table.insert s.rests k x) (new : x ≡ front_rest None) (number : k ≡ c) where

@@ -12,6 +12,7 @@ use Rattle.lard_rules.proofs.FrontBlocks.{segment-serves}
 use Rattle.lard_rules.proofs.FrontTurns.{IsServed, reads-stop}
 use Rattle.lard_rules.specs.Front.{FrontDeed, FrontEnv, FrontPart, front_fired, holds, front_rest, settled_by, waits_on}
 use Rattle.lard_rules.specs.FrontPlace.{front_part}
+use Rattle.lard_rules.specs.FrontSound.{Serves}
 use Rattle.lard_front.specs.declared.turns.Around.{Around}
 use Rattle.lard_front.specs.Hand.{Holds, front_count_of, deed_turn, front_env_of, fires_held, fires_held_by, fires_waiting, fires_waiting_by, heard_at, front_heard_by, read_deed, reading_of, waits_heard, waits_heard_by}
 use Rattle.lard_front.proofs.Lent.{held_here, same_endpoint}
@@ -20,7 +21,6 @@ use Rattle.lard_handoff_front.specs.Front.{endpoint_of}
 use Rattle.lard_handoff_front.specs.Row.{held_in}
 use Rattle.lard_rules.specs.declared.places.Ending.{Ending}
 use Rattle.lard_rules.specs.declared.places.Turn.{Turn}
-use Rattle.lard_rules.proofs.Totals.{segment-many}
 use Rattle.lard_rules.specs.Serving.{ServeEnv, serving, serving_ready_of, spoken}
 use Rattle.lard_segment.specs.Segment.{Said}
 use Rattle.lard_serving.specs.declared.answering.Service.{Service as Served}
@@ -45,17 +45,21 @@ module _ {s : FrontState} {c : ℕ} {waiting : Bool} (h : Holds s c waiting) (sa
   pub segment_begins : service_of new w ≡ serving (on_segment h.block said).1 (front_count_of (table.get s.rests c)) []
   segment_begins = begins new (on_segment h.block said).1 w n (front_count_of (table.get s.rests c)) is counts took
 
+  -- it serves on what was asked for
+  served : Serves h.rest.count (on_segment h.block said).1.recv (on_segment h.block said).1.send
+  served = segment-serves h.rest.count h.block said h.here.serves
+
   -- as many responses as before are counted, and were asked for
   pub segment_counted : IsCounted new w
   segment_counted =
-      let more = subst (λ (d : ControlBlock). h.rest.count ≤ d.send.total) (sym took) (omega (arith, h.here.serves.counted, segment-many h.block said)) in
-      record { responses = omega (arith, more, is.0, many); bytes = omega (arith, is.2) }
+      let got = subst (λ (d : ControlBlock). h.rest.count ≤ d.recv.got) (sym took) (omega (arith, served.asked)) in
+      record { responses = omega (arith, got, is.0, many); bytes = omega (arith, is.2) }
 
   pub segment_asked : (env : ServeEnv) (e : ControlBlock) (v : Served) (target : Option (List ℕ)) → reading_of e v target ≡ front_reads env (reading_of new w None)
       → v.count ≤ e.recv.got - length e.recv.unread
   segment_asked env e v target read =
       let begun = begins new (on_segment h.block said).1 w n h.rest.count is many took in
-      let stopped = reads-stop env (serving (on_segment h.block said).1 h.rest.count []) (segment-serves h.rest.count h.block said h.here.serves) in
+      let stopped = reads-stop env (serving (on_segment h.block said).1 h.rest.count []) served in
       let all : IsServed (service_of e v) =
       subst (λ (x : Reading). IsServed x.service) (sym (read ∙ ap (λ x. front_reads env (record { service = x; target = None })) begun)) stopped.0 in
       omega (arith, all.asked)

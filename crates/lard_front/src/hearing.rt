@@ -1,6 +1,6 @@
 //! What comes to a connection whose endpoint is here: a segment of its client, or its timer.
 
-ghost use Rattle.std.specs.Prelude.{◌≡◌, ◌-◌, ◌^◌, ◌<◌, ◌≤◌, true, false, [], length, IfOk, None, Some};
+ghost use Rattle.std.specs.Prelude.{◌≡◌, ◌+◌, ◌-◌, ◌^◌, ◌<◌, ◌≤◌, true, false, [], length, IfOk, None, Some};
 ghost use Rattle.std.specs.FinMap as table;
 ghost use Rattle.lard_base.specs.declared.limits.TheConstants.{MAX_STREAM_BYTES};
 ghost use Rattle.lard_rules.specs.FrontPlace.{front_part};
@@ -166,7 +166,7 @@ pub fn fire_waiting(
 
 /// What an endpoint says whose timer fires (RFC 9293, 3.10.8).
 fn fired(alloc: Global, env: &Env<'_>, mut endpoint: Endpoint, count: u32) -> Ends
-    requires { count ≤ endpoint.send.total }
+    requires asked { count + length endpoint.recv.unread ≤ endpoint.recv.got }
     ensures turn { IfOk result.1 (λ turn. (result.0, turn) ≡ spoken (env_seen env.now) (serving (after_timer endpoint) count []) (serving_ready_of (env_seen env.now) (after_timer endpoint) (timed endpoint))) }
     ensures fits { IfOk result.1 IsTurn }
 {

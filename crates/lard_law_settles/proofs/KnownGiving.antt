@@ -107,9 +107,9 @@ module _ (files : FilesAt) (x : Conn) (st : Station) (k : Talk) (pend : List Ver
         let bytes_are : message x.c e (body.Offer own) ≡ message x.c at.row.epoch.0 (body.Offer (parts_of offering.block offering.count)) = sym (ap (λ (y : Kept). y.bytes) k1) ∙ kept.2 ∙ its-bytes in
         let count : own.served ≡ (front_rest x.part.front.rest).count = keeps.1.2 in
         let fits = small in
-        let counted = offering.holds.serves.counted in
-        let most : offering.block.send.total ≤ 2 ^ 30 = offering.holds.holds.sound.sending.most in
-        let is_own : own.served ≡ offering.count = served-same x.c e at.row.epoch.0 own (parts_of offering.block offering.count) bytes_are (omega (arith, count, fits)) (omega (arith, counted, most)) in
+        let asked = offering.holds.serves.asked in
+        let most : offering.block.recv.got ≤ 2 ^ 30 = offering.holds.serves.most in
+        let is_own : own.served ≡ offering.count = served-same x.c e at.row.epoch.0 own (parts_of offering.block offering.count) bytes_are (omega (arith, count, fits)) (omega (arith, asked, most)) in
         ap (λ (p : EndpointParts). p.served) read ∙ sym is_own ∙ count
 
     new-offer : IsNewOffer x.part st.client n e parts

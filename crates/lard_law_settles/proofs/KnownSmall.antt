@@ -127,9 +127,9 @@ module _ (p : FrontPart) (few : (row : FrontRow) → p.row ≡ Some row → Stag
 
 holds-few : (k : Talk) (pend : List Verdict) (b : ControlBlock) (count : ℕ) → FrontHolds k.w k.out k.vs pend b count → count ≤ 2 ^ 30
 holds-few k pend b count h =
-    let counted = h.serves.counted in
-    let most : b.send.total ≤ 2 ^ 30 = h.holds.sound.sending.most in
-    omega (arith, counted, most)
+    let asked = h.serves.asked in
+    let most : b.recv.got ≤ 2 ^ 30 = h.serves.most in
+    omega (arith, asked, most)
 
 stage-few : (x : Conn) (k : Talk) (pend : List Verdict) (e : ℕ) (z : FrontConn) → StageAgrees k.w k.out k.vs pend k.was_reset x.c x.part e z → StageFew (front_rest x.part.front.rest).count z
 stage-few x k pend e (stage.Held b) h = (holds-few k pend b (front_rest x.part.front.rest).count h, h.holds.sound)

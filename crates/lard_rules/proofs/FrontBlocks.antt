@@ -128,10 +128,10 @@ arrived-most r seq bytes fin h =
 
 serves-kept : (n : ℕ) → KeptByTurns (Serves n)
 serves-kept n = record {
-  comes = λ r s seq bytes fin h. record { counted = h.counted; asked = arrived-read n r seq bytes fin h.asked; most = arrived-most r seq bytes fin h.most; sent = h.sent };
-  acks = λ r s ack seq wnd h. record { counted = omega (arith, h.counted, (ack-side s ack seq wnd).total); asked = h.asked; most = h.most; sent = acks-within s ack seq wnd h.sent };
-  nexts = λ r s h. record { counted = omega (arith, h.counted, (next-side s).total); asked = h.asked; most = h.most; sent = nexts-within s h.sent };
-  again = λ r s h. record { counted = omega (arith, h.counted, (resend-side s).total); asked = h.asked; most = h.most; sent = again-within s h.sent };
+  comes = λ r s seq bytes fin h. record { asked = arrived-read n r seq bytes fin h.asked; most = arrived-most r seq bytes fin h.most; sent = h.sent };
+  acks = λ r s ack seq wnd h. record { asked = h.asked; most = h.most; sent = acks-within s ack seq wnd h.sent };
+  nexts = λ r s h. record { asked = h.asked; most = h.most; sent = nexts-within s h.sent };
+  again = λ r s h. record { asked = h.asked; most = h.most; sent = again-within s h.sent };
 }
 
 abbrev pub ServesAs : ℕ → ControlBlock → Type 0

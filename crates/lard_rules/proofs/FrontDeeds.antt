@@ -142,7 +142,7 @@ module _ (d : Dispatcher) (env : FrontEnv) (of : IsOf env d) (p : FrontPart) (ta
   begins-keeps s none free =
       let w : Service = serving (listening s env.iss) 0 (rec.Took place.Front env.serve.c (record { 0 = 1 }) ∷ []) in
       holds-keeps d env.serve.c env.now p (record { stage = stage.Lent; epoch = record { 0 = 1 }; ended_by = None }) (front_rest None) (spoken env.serve w []) (omega arith) none free (λ some. absurd (omega (arith, some)))
-      (spoken-serves env.serve w [] (record { counted = omega arith; asked = omega arith; most = omega arith; sent = omega arith }))
+      (spoken-serves env.serve w [] (record { asked = omega arith; most = omega arith; sent = omega arith }))
 
   hears-keeps : (row : FrontRow) (bytes : List ℕ) (s : Said) (at : FrontConn) → IsStageSound row.epoch.0 p.rest p.kept (dispatch_standing d env.serve.c) at → DeedKeeps d env.serve.c env.now (hears_at env p row bytes s at)
   hears-keeps row bytes s (stage.Held b) sound =

@@ -17,7 +17,6 @@ use Rattle.lard_request.specs.Verdict.{closes}
 use Rattle.lard_rules.proofs.Endings.{answered-keeps, at-fin-keeps}
 use Rattle.lard_rules.proofs.FrontBlocks.{ServesAs, one-few}
 use Rattle.lard_rules.proofs.Reading.{answered-unread}
-use Rattle.lard_rules.proofs.Serving.{answer-some}
 use Rattle.lard_rules.proofs.Runs.{Falls, goes_done, goes_more}
 use Rattle.lard_rules.specs.Loop.{Step, runs_on}
 use Rattle.lard_rules.specs.Loop as loop
@@ -69,22 +68,22 @@ less-left env x y e = subst (FallsFrom (reading_left x)) (sym e) (found-falls en
 
 closed-serves : (v : Verdict) (n : ℕ) (b : ControlBlock) → ServesAs n b → ServesAs n (closed_behind v b)
 closed-serves v n b h = cond_both (closes v) (finishing (discarding_on b)) b (ServesAs n)
-    (λ t. record { counted = h.counted; asked = omega (arith, h.asked); most = h.most; sent = omega (arith, h.sent, one-few b.send.finished) }) (λ t. h)
+    (λ t. record { asked = omega (arith, h.asked); most = h.most; sent = omega (arith, h.sent, one-few b.send.finished) }) (λ t. h)
 
 abbrev pub IsServed : Service → Type 0
 IsServed w = ServesAs w.count w.block
 
 consumed-serves : (n : ℕ) (w : Service) → IsServed w → IsServed (serving_consumed n w)
-consumed-serves n w h = record { counted = h.counted; asked = omega (arith, h.asked, length-drop n w.block.recv.unread); most = h.most; sent = h.sent }
+consumed-serves n w h = record { asked = omega (arith, h.asked, length-drop n w.block.recv.unread); most = h.most; sent = h.sent }
 
--- an answer is of a request that was read, and has a byte
+-- an answer is of a request that was read
 pub answered-serves : (env : ServeEnv) (via : Via) (v : Verdict) (w : Service) → w.count + 1 + length w.block.recv.unread ≤ w.block.recv.got → IsServed w → IsServed (answered env via v w)
 answered-serves env via v w le h =
     answered-keeps IsServed env via v w (λ t. h)
-    (λ t. closed-serves v (w.count + 1) (queueing w.block (answer env.files v)) (record { counted = omega (arith, h.counted, answer-some env.files v); asked = le; most = h.most; sent = omega (arith, h.sent) }))
+    (λ t. closed-serves v (w.count + 1) (queueing w.block (answer env.files v)) (record { asked = le; most = h.most; sent = omega (arith, h.sent) }))
 
 ended-serves : (w : Service) → IsServed w → IsServed (ended_at_fin w)
-ended-serves w h = at-fin-keeps IsServed w (λ t. record { counted = h.counted; asked = h.asked; most = h.most; sent = omega (arith, h.sent, one-few w.block.send.finished) }) (λ t. h)
+ended-serves w h = at-fin-keeps IsServed w (λ t. record { asked = h.asked; most = h.most; sent = omega (arith, h.sent, one-few w.block.send.finished) }) (λ t. h)
 
 -- while it goes on nothing is to be placed
 abbrev pub IsReading : Reading → Type 0

@@ -34,10 +34,9 @@ dispatch_standing d c = record { home = home d.books.loads c; waits = line_waits
 abbrev pub nowhere : DispatchStanding
 nowhere = record { home = None; waits = false }
 
--- Each response that was queued has a byte, and was asked for by one that was read, of which there are at most 2^30; and no symbol
--- was sent that is none.
+-- Each response that was queued was asked for by a byte that was read, of which there are at most 2^30; and no symbol was sent that is
+-- none.
 pub record Serves (count : ℕ) (r : Received) (s : Sending) : Type 0 where
-  pub counted : count ≤ s.total
   pub asked : count + length r.unread ≤ r.got
   pub most : r.got ≤ MAX_STREAM_BYTES
   pub sent : s.nxt ≤ symbols s
