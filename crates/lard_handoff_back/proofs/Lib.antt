@@ -1,1 +1,3 @@
+pub mod Leaving
+pub mod Putting
 pub mod Stages

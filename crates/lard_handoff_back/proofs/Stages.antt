@@ -1,5 +1,5 @@
 -- An endpoint that is taken out to be ended, and put back where it may not end.
-use Rattle.std.proofs.Common.{◌≡◌, ℕ, Bool, true, false, cond, Option, Some, None, IsSome, OnSome, option_map, ◌==◌, nat_lt, ◌&&◌, arith, ltb-true, refl, sym, ap, ◌∙◌, subst}
+use Rattle.std.proofs.Common.{◌≡◌, ℕ, true, false, Option, Some, None, IsSome, OnSome, option_map, refl, sym, ap, ◌∙◌, subst}
 use Rattle.std.specs.FinMap.{get, insert}
 use Rattle.std.proofs.lemmas.Bool.{cond-false}
 use Rattle.lard_endpoint.specs.Control.{ControlBlock}
@@ -9,9 +9,8 @@ use Rattle.lard_table.specs.Table.{put_or}
 use Rattle.lard_handoff_back.specs.declared.row.BackConn.{BackConn}
 use Rattle.lard_handoff_back.specs.declared.row.BackConn.TheVariants.{Here, Out, Ended, Gone}
 use Rattle.lard_handoff_back.specs.declared.row.BackRow.{BackRow}
-use Rattle.lard_handoff_back.specs.Row.{back_held, is_out, is_gone}
-use Rattle.lard_handoff_back.specs.Laws.{AdoptsOnce, StagesKeepTheEpoch}
-use Rattle.lard_handoff_back.specs.declared.table.Adopt.TheVariants.{New, Again, Stale}
+use Rattle.lard_handoff_back.specs.Row.{back_held, is_out}
+use Rattle.lard_handoff_back.specs.Laws.{StagesKeepTheEpoch}
 use Rattle.lard_handoff_back.specs.Back.{Backs, back_endpoint, back_ends, given, back_may_put, back_with_stage}
 
 -- a row stays where its stage is set
@@ -57,14 +56,6 @@ out_is None r h = let none : None ≡ Some Out = h in absurd cc
 out_is (Some row) None h = tt
 out_is (Some row) (Some b) h = let stages : Some row.stage ≡ Some Out = h in let same : row.stage ≡ Out = cc in ap is_out same
 
--- ---- laws
-
-pub adopts : AdoptsOnce
-adopts e row le h = go (row.epoch.0 == e) (nat_lt row.epoch.0 e) refl (is_gone row.stage) h where
-  go : (t u : Bool) → nat_lt row.epoch.0 e ≡ u → (g : Bool) → cond t Again (cond (u && g) New Stale) ≡ New → ⊥
-  go true u p g h = cc
-  go false true p g h = omega (arith, ltb-true row.epoch.0 e p, le)
-  go false false p g h = cc
-
+-- the highest epoch that was decided stays
 pub stages_keep : StagesKeepTheEpoch
 stages_keep m c stage row h = ap (λ (o : Option BackRow). get (back_with_stage m c stage o) c) h ∙ get_inserted m c (record row { stage = stage })

@@ -1,4 +1,4 @@
--- What the calls of a node's table answer, and what they leave. What is looked up is an argument of its own.
+-- What the calls of a node's table answer by the row of a connection, and what they leave of the rows. What is looked up is an argument of its own.
 use Rattle.std.specs.Prelude.{ℕ, Bool, false, ◌==◌, nat_lt, ◌&&◌, Option, Some, None, option_map, if◌then◌else◌}
 use Rattle.std.specs.FinMap.{FinMap, insert}
 use Rattle.std.specs.Ordering.{nat_cmp}
@@ -32,19 +32,14 @@ back_may_put (Some row) = is_out row.stage
 
 -- ---- an Offer
 
--- New where its epoch exceeds the highest that was decided, nothing of the connection is here or out, and no answer to its end
--- is awaited; Again where it is the highest that was decided
+-- To a node that stays it is New where its epoch exceeds the highest that was decided, nothing of the connection is here or out, and no answer to its
+-- end is awaited; Again where it is the highest that was decided.
 abbrev pub offer_answer : ℕ → Option BackRow → Adopt
 offer_answer e None = New
 offer_answer e (Some row) = if row.epoch.0 == e then Again else if nat_lt row.epoch.0 e && is_gone row.stage then New else Stale
 
 abbrev pub stay_row : Epoch → EndpointParts → BackRow
 stay_row epoch parts = record { stage = Here (adopted parts); epoch = epoch }
-
-abbrev pub after_offer : Backs → ℕ → Epoch → EndpointParts → Adopt → Backs
-after_offer m c epoch parts New = insert m c (stay_row epoch parts)
-after_offer m c epoch parts Again = m
-after_offer m c epoch parts Stale = m
 
 -- ---- a stay
 
@@ -76,10 +71,10 @@ abbrev pub given : Backs → ℕ → Option BackRow → Option Final → Backs
 given m c o None = m
 given m c o (Some last) = back_with_stage m c Ended o
 
--- EndedAck is awaited in this epoch
+-- the stay of this epoch is over, and what told the front end so has no answer yet
 abbrev pub awaits_ack : ℕ → Option BackRow → Bool
 awaits_ack e None = false
 awaits_ack e (Some row) = row.epoch.0 == e && is_ended row.stage
 
-abbrev pub back_acknowledged : Backs → ℕ → ℕ → Option BackRow → Backs
-back_acknowledged m c e o = if awaits_ack e o then back_with_stage m c Gone o else m
+abbrev pub back_acknowledged : Backs → ℕ → Option BackRow → Bool → Backs
+back_acknowledged m c o awaited = if awaited then back_with_stage m c Gone o else m

@@ -12,7 +12,7 @@ pub enum BackConn {
     Here(Endpoint),
     /// Taken out for a while.
     Out,
-    /// Nowhere: it ended here, and the front end has not acknowledged that.
+    /// Nowhere: it ended here, and the front end has not answered what told it how.
     Ended,
     /// Nowhere, and the front end knows it.
     Gone,
@@ -50,7 +50,7 @@ impl BackConn {
         }
     }
 
-    /// Whether the front end has not acknowledged the end.
+    /// Whether the front end has not answered what told it how the stay ended.
     pub fn is_ended(&self) -> bool
         ensures { result ≡ is_ended self.now }
     {

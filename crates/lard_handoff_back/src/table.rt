@@ -6,7 +6,9 @@ ghost use Rattle.lard_base.specs.Parts.{IsValidParts};
 ghost use Rattle.lard_base.specs.declared.place.Reason.TheVariants.{Limit};
 ghost use Rattle.lard_endpoint.specs.Moving.{final_of};
 ghost use Rattle.lard_handoff_back.specs.declared.row.BackConn.TheVariants as stage;
-ghost use Rattle.lard_handoff_back.specs.Back.{back_acknowledged, after_offer, awaits_ack, back_endpoint, back_ends, epoch_of, given, back_may_put, offer_answer, staying, back_taken, back_with_stage};
+ghost use Rattle.lard_handoff_back.specs.Back.{back_acknowledged, awaits_ack, back_endpoint, back_ends, epoch_of, given, back_may_put, staying, back_taken, back_with_stage};
+ghost use Rattle.lard_handoff_back.specs.Leaving.{after_offer, awaits_ended, offer_decision};
+ghost use Rattle.lard_handoff_back.specs.Table.{beside_in, table_begun};
 
 use crate::row::{BackConn, BackRow};
 use lard_base::{ConnId, EndpointParts, Epoch, NoMemory};
@@ -14,6 +16,11 @@ use lard_endpoint::{Endpoint, Final};
 use lard_table::Table;
 use std::alloc::Global;
 use std::marker::Model;
+
+mod deciding;
+mod leaving;
+
+use deciding::decision;
 
 /// What an Offer is to a node.
 #[derive(Clone, Copy, Debug, PartialEq, Eq)]
@@ -24,39 +31,49 @@ pub enum Adopt {
     Again,
     /// An old one, or one that comes before the end of an earlier stay is acknowledged.
     Stale,
+    /// The node leaves: it is refused, now or before.
+    Refuse,
 }
 
 /// The connections that were ever offered to a node, each kept to the end of the run. The table has to be spent, by `finish`.
 pub struct BackTable {
     conns: Table<BackRow>,
+    /// Of each connection the highest epoch that was refused.
+    refused: Table<Epoch>,
+    /// Of each connection that was given back how many responses were queued before.
+    returned: Table<u32>,
+    /// The node takes nothing new, and gives back what it has.
+    leaving: bool,
 }
 
 impl Model for BackTable {
-    ghost use Rattle.std.specs.Coded.{coded_ℕ};
-    ghost use Rattle.std.specs.FinMap as map;
-    ghost use Rattle.std.specs.Ordering.{nat_cmp};
-    ghost use Rattle.lard_handoff_back.specs.contracts.row.BackRow as row;
-    ghost use Rattle.lard_handoff_back.specs.declared.row.BackRow.{BackRow};
+    ghost use Rattle.lard_handoff_back.specs.Table as specs;
 
-    ghost Value = { map.FinMap nat_cmp BackRow };
+    ghost Value = { specs.Table };
 
-    ghost coded = { map.code coded_ℕ row.the_row.coded };
+    ghost coded = { specs.coded_table };
 
-    ghost view = { λ t. t.conns };
+    ghost view = { λ t. record { rows = t.conns; refused = t.refused; returned = t.returned; leaving = t.leaving } };
+
+    ghost invariant = { λ t. specs.IsTableSound (record { rows = t.conns; refused = t.refused; returned = t.returned; leaving = t.leaving }) };
 }
 
 impl BackTable {
-    /// No connection. It takes no memory yet.
+    /// No connection, at a node that stays. It takes no memory yet.
+    #[tactic(auto, using(crate::proofs::Leaving::begun_sound))]
     pub fn new(alloc: Global) -> BackTable
-        ensures { result ≡ map.empty }
+        ensures { result ≡ table_begun }
     {
         BackTable {
             conns: Table::new(alloc),
+            refused: Table::new(alloc),
+            returned: Table::new(alloc),
+            leaving: false,
         }
     }
 
-    /// An Offer came, with parts that are valid. A new one makes an endpoint of them, which is here in this epoch. Without
-    /// memory nothing changes.
+    /// An Offer came, with parts that are valid. A new one makes an endpoint of them, which is here in this epoch; one that
+    /// is refused is remembered so. Without memory nothing changes.
     pub fn on_offer(
         &mut self,
         alloc: Global,
@@ -65,12 +82,12 @@ impl BackTable {
         parts: &EndpointParts,
     ) -> Result<Adopt, NoMemory>
         requires { IsValidParts parts.now }
-        ensures answer { IfOk result (λ adopt. adopt ≡ offer_answer epoch.0 (map.get self.old c)) }
-        ensures ok { OnOk result (self.new ≡ after_offer self.old c epoch parts.now (offer_answer epoch.0 (map.get self.old c))) }
+        ensures answer { IfOk result (λ adopt. adopt ≡ offer_decision self.old.leaving epoch.0 (map.get self.old.rows c) (beside_in self.old c)) }
+        ensures ok { OnOk result (self.new ≡ after_offer self.old c epoch parts.now (offer_decision self.old.leaving epoch.0 (map.get self.old.rows c) (beside_in self.old c))) }
         ensures err { OnErr result (self.new ≡ self.old) }
     {
         let number = c.number();
-        match offer_answer(&self.conns, number, epoch) {
+        match decision(self, number, epoch) {
             Adopt::New => {
                 let endpoint = Endpoint::adopt(alloc, parts)?;
                 let row = BackRow {
@@ -82,15 +99,19 @@ impl BackTable {
             }
             Adopt::Again => return Ok(Adopt::Again),
             Adopt::Stale => return Ok(Adopt::Stale),
+            Adopt::Refuse => {
+                let _ = self.refused.insert(number, epoch)?;
+                return Ok(Adopt::Refuse);
+            }
         }
     }
 
     /// Takes the endpoint of a connection out, where it is here with this epoch. `None` where it is not, which changes
     /// nothing.
     pub fn take(&mut self, c: ConnId, epoch: Epoch) -> Option<Endpoint>
-        ensures found { result ≡ staying epoch.0 (map.get self.old c) }
-        ensures after { self.new ≡ back_taken self.old c (map.get self.old c) (staying epoch.0 (map.get self.old c)) }
-        ensures out { OnSome result (back_may_put (map.get self.new c) ≡ true) }
+        ensures found { result ≡ staying epoch.0 (map.get self.old.rows c) }
+        ensures after { self.new ≡ record self.old { rows = back_taken self.old.rows c (map.get self.old.rows c) (staying epoch.0 (map.get self.old.rows c)) } }
+        ensures out { OnSome result (back_may_put (map.get self.new.rows c) ≡ true) }
     {
         let number = c.number();
         if !stays(&self.conns, number, epoch) {
@@ -101,30 +122,30 @@ impl BackTable {
 
     /// Brings back the endpoint of a connection that is out.
     pub fn put(&mut self, c: ConnId, endpoint: Endpoint)
-        requires { back_may_put (map.get self.old c) ≡ true }
-        ensures { self.new ≡ back_with_stage self.old c (stage.Here endpoint) (map.get self.old c) }
+        requires { back_may_put (map.get self.old.rows c) ≡ true }
+        ensures { self.new ≡ record self.old { rows = back_with_stage self.old.rows c (stage.Here endpoint) (map.get self.old.rows c) } }
     {
         set_stage(&mut self.conns, c.number(), BackConn::Here(endpoint)).spend();
     }
 
     /// Ends a connection that is out, whose endpoint has ended. EndedAck is awaited then.
     pub fn close(&mut self, c: ConnId)
-        requires { back_may_put (map.get self.old c) ≡ true }
-        ensures { self.new ≡ back_with_stage self.old c stage.Ended (map.get self.old c) }
+        requires { back_may_put (map.get self.old.rows c) ≡ true }
+        ensures { self.new ≡ record self.old { rows = back_with_stage self.old.rows c stage.Ended (map.get self.old.rows c) } }
     {
         set_stage(&mut self.conns, c.number(), BackConn::Ended).spend();
     }
 
     /// What is kept of a connection, lent; `None` where nothing is.
     pub fn row(&self, c: ConnId) -> Option<&BackRow>
-        ensures { option_copied result ≡ map.get self.now c }
+        ensures { option_copied result ≡ map.get self.now.rows c }
     {
         self.conns.get(c.number())
     }
 
     /// The epoch of an endpoint that is here; `None` where none is.
     pub fn epoch(&self, c: ConnId) -> Option<Epoch>
-        ensures { result ≡ epoch_of (map.get self.now c) }
+        ensures { result ≡ epoch_of (map.get self.now.rows c) }
     {
         match self.conns.get(c.number()) {
             Some(row) => {
@@ -139,9 +160,9 @@ impl BackTable {
 
     /// Ends the endpoint of a connection, which is here, since it passed the stream limit. EndedAck is awaited then.
     pub fn kill(&mut self, c: ConnId) -> Final
-        requires { is_some (epoch_of (map.get self.old c)) ≡ true }
-        ensures last { option_map (λ b. final_of b Limit) (back_endpoint (map.get self.old c)) ≡ Some result }
-        ensures after { self.new ≡ back_with_stage self.old c stage.Ended (map.get self.old c) }
+        requires { is_some (epoch_of (map.get self.old.rows c)) ≡ true }
+        ensures last { option_map (λ b. final_of b Limit) (back_endpoint (map.get self.old.rows c)) ≡ Some result }
+        ensures after { self.new ≡ record self.old { rows = back_with_stage self.old.rows c stage.Ended (map.get self.old.rows c) } }
     {
         let Some(endpoint) = set_stage(&mut self.conns, c.number(), BackConn::Ended).into_endpoint()
         else {
@@ -153,8 +174,8 @@ impl BackTable {
     /// Ends the endpoint of a connection, where it is here and may end, and answers its last numbers. EndedAck is
     /// awaited then. `None` where it is not here or may not end, which changes nothing.
     pub fn give(&mut self, c: ConnId) -> Option<Final>
-        ensures last { result ≡ back_ends (back_endpoint (map.get self.old c)) }
-        ensures after { self.new ≡ given self.old c (map.get self.old c) (back_ends (back_endpoint (map.get self.old c))) }
+        ensures last { result ≡ back_ends (back_endpoint (map.get self.old.rows c)) }
+        ensures after { self.new ≡ record self.old { rows = given self.old.rows c (map.get self.old.rows c) (back_ends (back_endpoint (map.get self.old.rows c))) } }
     {
         let number = c.number();
         if !has_endpoint(&self.conns, number) {
@@ -175,11 +196,11 @@ impl BackTable {
 
     /// An EndedAck came: true exactly where it is awaited in this epoch, and then no longer.
     pub fn on_ended_ack(&mut self, c: ConnId, epoch: Epoch) -> bool
-        ensures value { result ≡ awaits_ack epoch.0 (map.get self.old c) }
-        ensures after { self.new ≡ back_acknowledged self.old c epoch.0 (map.get self.old c) }
+        ensures value { result ≡ awaits_ended epoch.0 (map.get self.old.rows c) (beside_in self.old c) }
+        ensures after { self.new ≡ record self.old { rows = back_acknowledged self.old.rows c (map.get self.old.rows c) (awaits_ended epoch.0 (map.get self.old.rows c) (beside_in self.old c)) } }
     {
         let number = c.number();
-        if !awaits_ack(&self.conns, number, epoch) {
+        if !awaits_ack(&self.conns, number, epoch) || self.returned.get(number).is_some() {
             return false;
         }
         set_stage(&mut self.conns, number, BackConn::Gone).spend();
@@ -188,28 +209,21 @@ impl BackTable {
 
     /// Spends every endpoint, and the table.
     pub fn finish(self) {
-        let BackTable { mut conns } = self;
+        let BackTable {
+            mut conns,
+            mut refused,
+            mut returned,
+            leaving: _,
+        } = self;
         while let Some(row) = conns.pop() {
             spend_row(Some(row));
         }
         conns.destroy_empty();
+        while let Some(_epoch) = refused.pop() {}
+        refused.destroy_empty();
+        while let Some(_served) = returned.pop() {}
+        returned.destroy_empty();
     }
-}
-
-/// What an Offer of this epoch is.
-fn offer_answer(conns: &Table<BackRow>, c: u32, epoch: Epoch) -> Adopt
-    ensures { result ≡ offer_answer epoch.0 (map.get conns.now c) }
-{
-    let Some(row) = conns.get(c) else {
-        return Adopt::New;
-    };
-    if row.epoch.0 == epoch.0 {
-        return Adopt::Again;
-    }
-    if row.epoch.0 < epoch.0 && row.stage.is_gone() {
-        return Adopt::New;
-    }
-    Adopt::Stale
 }
 
 /// Whether the endpoint of a connection is here with this epoch.
@@ -237,7 +251,7 @@ fn has_endpoint(conns: &Table<BackRow>, c: u32) -> bool
     }
 }
 
-/// Whether EndedAck is awaited in this epoch.
+/// Whether a stay of this epoch is over, and what told the front end so has no answer yet.
 fn awaits_ack(conns: &Table<BackRow>, c: u32, epoch: Epoch) -> bool
     ensures { result ≡ awaits_ack epoch.0 (map.get conns.now c) }
 {

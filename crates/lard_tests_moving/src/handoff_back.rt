@@ -1,6 +1,6 @@
 //! Each call once, with ample memory, along the stays of one connection.
 
-use crate::compare::same;
+use crate::compare::{same, same_bytes};
 use lard_base::{Bytes, ConnId, EndpointParts, Epoch, NoMemory, Reason};
 use lard_endpoint::Final;
 use lard_handoff_back::{Adopt, BackTable};
@@ -178,6 +178,69 @@ fn a_connection_stays_once_for_each_epoch(rt: HostRuntime) -> Result<(), Fail> {
     is_killed(&rt, &mut table, rt.alloc(), &c, &parts);
     is_given(&rt, &mut table, rt.alloc(), &c, &parts);
     is_closed(&rt, &mut table, rt.alloc(), &c, &parts);
+    table.finish();
+    Ok(())
+}
+
+/// The Give of a connection whose request is unread.
+const GIVE: &[u8] =
+    b"\x02\x0b\x00\x01\x00\x02\x00\x00\x00\x42\x00\x00\x03\xe8\x00\x00\x13\x88\x00\x00\x00\x1f\x00\x00\x00\x00\x01\xff\xff\x00\x00\x03\xe9\x00\x00\x13\x89\x05\xb4\x00\x00\x00\x00\x00\x1fGET /a HTTP/1.1\r\nHost: lard\r\n\r\n";
+
+/// The bytes of the Give of a connection that is given back without a response; `None` where it is not.
+fn give_back(table: &mut BackTable, alloc: Global, c: &ConnId) -> Option<Bytes> {
+    table.give_back(alloc, *c, 0).ok()?
+}
+
+/// A node that leaves refuses what it did not take, and an older Offer is passed over.
+fn refuses(
+    rt: &impl Abort,
+    table: &mut BackTable,
+    alloc: Global,
+    c: &ConnId,
+    parts: &EndpointParts,
+) {
+    let offers = (
+        offered(table, alloc, c, Epoch(2), parts),
+        offered(table, alloc, c, Epoch(2), parts),
+        offered(table, alloc, c, Epoch(4), parts),
+        offered(table, alloc, c, Epoch(2), parts),
+    );
+    let (refuse, stale) = (Some(Adopt::Refuse), Some(Adopt::Stale));
+    same(rt, &offers, &(refuse, refuse, refuse, stale));
+}
+
+/// It gives back once what it has, and that awaits a Given of its epoch alone.
+fn gives_back(rt: &impl Abort, table: &mut BackTable, alloc: Global, c: &ConnId) {
+    let bytes = give_back(table, alloc, c).expect(rt, "a Give");
+    same_bytes(rt, bytes.as_slice(), GIVE);
+    let again = give_back(table, alloc, c).is_some();
+    let answers = (
+        again,
+        table.on_ended_ack(*c, Epoch(2)),
+        table.on_given(*c, Epoch(3)),
+        table.on_given(*c, Epoch(2)),
+        table.on_given(*c, Epoch(2)),
+    );
+    same(rt, &answers, &(false, false, false, true, false));
+}
+
+#[test]
+fn a_node_leaves(rt: HostRuntime) -> Result<(), Fail> {
+    let c = ConnId::new(1).ok_or("a connection")?;
+    let other = ConnId::new(2).ok_or("a connection")?;
+    let parts = parts(rt.alloc()).ok().ok_or("memory")?;
+    let mut table = BackTable::new(rt.alloc());
+    let new = offered(&mut table, rt.alloc(), &c, Epoch(2), &parts);
+    let early = give_back(&mut table, rt.alloc(), &c).is_some() || table.is_leaving();
+    table.leave();
+    let again = offered(&mut table, rt.alloc(), &c, Epoch(2), &parts);
+    same(
+        &rt,
+        &(new, early, table.is_leaving(), again),
+        &(Some(Adopt::New), false, true, Some(Adopt::Again)),
+    );
+    refuses(&rt, &mut table, rt.alloc(), &other, &parts);
+    gives_back(&rt, &mut table, rt.alloc(), &c);
     table.finish();
     Ok(())
 }
