@@ -5,7 +5,8 @@ ended by a line feed. `^` and `$` are the begin and the end of every line, and `
 goes on to the next line, and `(?s:.*?)` over as many lines as there need be.
 
 A name in angle brackets stands for the bytes of a packet in hexadecimal, where it is a message of this kind or a segment with
-this flag: <Offer> <Taken> <Forward> <Ask> <Tag> <Fetch> <Content> <Ended> <EndedAck>, <SYN> <FIN> <RST>.
+this flag: <Offer> <Taken> <Forward> <Ask> <Tag> <Fetch> <Content> <Ended> <EndedAck> <Refused> <Give> <Given>, <SYN> <FIN>
+<RST>.
 """
 
 import re
@@ -21,7 +22,7 @@ def flag_of(name):
     return rf"(?:9c40|0050)[0-9a-f]{{22}}[0-9a-f][{low}][0-9a-f]*"
 
 
-NAMES = {name: f"01{kind:02x}[0-9a-f]*" for kind, (name, _) in reports.BODIES.items()}
+NAMES = {name: f"{version:02x}{kind:02x}[0-9a-f]*" for (version, kind), (name, _) in reports.BODIES.items()}
 NAMES |= {name: flag_of(name) for name in ("SYN", "FIN", "RST")}
 BRACKETS = re.compile(r"(?<!\?P)<(%s)>" % "|".join(NAMES))
 

@@ -4,9 +4,10 @@
 
 local lard = Proto("lard", "lardsim message")
 
+-- No number stands for two kinds, whatever the version.
 local kinds = {
-    [1] = "Offer", [2] = "Taken", [4] = "Forward", [5] = "Ask", [6] = "Tag",
-    [7] = "Fetch", [8] = "Content", [9] = "Ended", [10] = "EndedAck",
+    [1] = "Offer", [2] = "Taken", [3] = "Refused", [4] = "Forward", [5] = "Ask", [6] = "Tag",
+    [7] = "Fetch", [8] = "Content", [9] = "Ended", [10] = "EndedAck", [11] = "Give", [12] = "Given",
 }
 local reasons = { [0] = "both sides closed", [1] = "reset by the client", [2] = "stream limit" }
 local flags = { "FIN", "SYN", "RST", "PSH", "ACK", "URG", "ECE", "CWR" } -- from the lowest bit
@@ -17,7 +18,7 @@ local f = {
     connection = ProtoField.uint16("lard.connection", "Connection"),
     epoch = ProtoField.uint16("lard.epoch", "Epoch"),
     length = ProtoField.uint32("lard.length", "Length of the body"),
-    -- Offer
+    -- Offer, Give
     irs = ProtoField.uint32("lard.irs", "Client's initial sequence number"),
     iss = ProtoField.uint32("lard.iss", "Cluster's initial sequence number"),
     got = ProtoField.uint32("lard.got", "Bytes received"),
@@ -157,6 +158,16 @@ function bodies.Ended(r)
 end
 
 function bodies.EndedAck()
+    return ""
+end
+
+function bodies.Refused()
+    return ""
+end
+
+bodies.Give = bodies.Offer
+
+function bodies.Given()
     return ""
 end
 

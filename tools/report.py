@@ -321,16 +321,20 @@ def options_read(options):
     return True
 
 
-BODIES = {  # of each kind of message: its name, and its numbers with their sizes in bytes
-    1: ("Offer", "irs 4 iss 4 got 4 fin 1 una 4 wnd 2 wl1 4 wl2 4 mss 2 served 4"),
-    2: ("Taken", ""),
-    4: ("Forward", ""),
-    5: ("Ask", "number 4 queue 4 size 1 count 1"),
-    6: ("Tag", "number 4 count 1"),
-    7: ("Fetch", "request 4"),
-    8: ("Content", "request 4"),
-    9: ("Ended", "reason 1 snd 4 rcv 4 count 4"),
-    10: ("EndedAck", ""),
+PARTS = "irs 4 iss 4 got 4 fin 1 una 4 wnd 2 wl1 4 wl2 4 mss 2 served 4"  # the numbers of an endpoint that moves
+BODIES = {  # of each version and kind of message: its name, and its numbers with their sizes in bytes
+    (1, 1): ("Offer", PARTS),
+    (1, 2): ("Taken", ""),
+    (1, 4): ("Forward", ""),
+    (1, 5): ("Ask", "number 4 queue 4 size 1 count 1"),
+    (1, 6): ("Tag", "number 4 count 1"),
+    (1, 7): ("Fetch", "request 4"),
+    (1, 8): ("Content", "request 4"),
+    (1, 9): ("Ended", "reason 1 snd 4 rcv 4 count 4"),
+    (1, 10): ("EndedAck", ""),
+    (2, 3): ("Refused", ""),
+    (2, 11): ("Give", PARTS),
+    (2, 12): ("Given", ""),
 }
 REASONS = ["both sides closed", "reset by the client", "stream limit"]  # of an Ended
 
@@ -338,7 +342,7 @@ REASONS = ["both sides closed", "reset by the client", "stream limit"]  # of an 
 def message(data):
     """The message that these bytes are, or None. Its kind and numbers, and with some kinds `unread`, `segment`, `paths`,
     `nodes`, `path` or `content`."""
-    if len(data) < 10 or data[0] != 1 or data[1] not in BODIES or int.from_bytes(data[6:10], "big") != len(data) - 10:
+    if len(data) < 10 or tuple(data[:2]) not in BODIES or int.from_bytes(data[6:10], "big") != len(data) - 10:
         return None
     at = 10
 
@@ -352,12 +356,12 @@ def message(data):
     def number(size):
         return int.from_bytes(take(size), "big")
 
-    kind, names = BODIES[data[1]]
+    kind, names = BODIES[tuple(data[:2])]
     found = SimpleNamespace(kind=kind, connection=int.from_bytes(data[2:4], "big"), epoch=int.from_bytes(data[4:6], "big"))
     try:
         for name, size in zip(names.split()[::2], names.split()[1::2]):
             setattr(found, name, number(int(size)))
-        if kind == "Offer":
+        if kind in ("Offer", "Give"):
             found.unread = take(number(2))
         elif kind == "Forward":
             found.segment = segment(take(len(data) - 10), found.connection, True)
@@ -417,9 +421,9 @@ def brief(report, sent):
     body = sent.message
     if body is None:
         return f"{count(len(sent.bytes), 'byte')}, no segment"
-    if body.kind == "Offer":
+    if body.kind in ("Offer", "Give"):
         more = f" epoch {body.epoch}, {len(body.unread)} unread"
-    elif body.kind == "Taken":
+    elif body.kind in ("Taken", "Refused", "Given"):
         more = f" epoch {body.epoch}"
     elif body.kind == "Forward":
         more = ": " + (segment_brief(report, body.connection, body.segment, True) if body.segment else "no segment")

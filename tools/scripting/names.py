@@ -53,6 +53,9 @@ KINDS = {  # what a packet has to be
     "content": is_message("Content"),
     "ended": is_message("Ended"),
     "ended-ack": is_message("EndedAck"),
+    "refused": is_message("Refused"),
+    "give": is_message("Give"),
+    "given": is_message("Given"),
 }
 PLURALS = {"everything": "packet", "fetches": "fetch"} | {kind + "s": kind for kind in KINDS}
 ORDINAL = re.compile(r"([1-9][0-9]*)(st|nd|rd|th)")
@@ -228,7 +231,7 @@ def paths_of(packet, world):
     body = packet.message
     if body is None:
         return []
-    if body.kind == "Offer":
+    if body.kind in ("Offer", "Give"):
         return requested(body.unread)
     if body.kind == "Forward":
         return requested(body.segment.data) if body.segment else []
