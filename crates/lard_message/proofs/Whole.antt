@@ -24,24 +24,22 @@ use Rattle.lard_message.proofs.Tables.{table_passes, table_passed}
 
 pub named_again : (k : Kind) → kind_named (version_of k) (kind_number k) ≡ Some k
 named_again kind.Offer = refl
-named_again kind.Taken = refl
-named_again kind.Forward = refl
-named_again kind.Ask = refl
-named_again kind.Tag = refl
-named_again kind.Fetch = refl
-named_again kind.Content = refl
-named_again kind.Ended = refl
-named_again kind.EndedAck = refl
-named_again kind.Refused = refl
-named_again kind.Give = refl
-named_again kind.Given = refl
+named_again _ = refl
 
 -- the version of a kind is one
-pub version_again : (k : Kind) → is_version (version_of k) ≡ true
-version_again kind.Refused = refl
-version_again kind.Give = refl
-version_again kind.Given = refl
+version_again : (k : Kind) → is_version (version_of k) ≡ true
+version_again kind.Offer = refl
 version_again _ = refl
+
+-- the first two bytes of a header are small
+small_again : (k : Kind) → (nat_le 1 (version_of k) && (nat_le (version_of k) 2 && nat_le (kind_number k) 12)) ≡ true
+small_again kind.Offer = refl
+small_again _ = refl
+
+pub kind_small : (k : Kind) → (1 ≤ version_of k) × (version_of k ≤ 2) × (kind_number k ≤ 12)
+kind_small k =
+    let some = and_parts _ _ (small_again k) in let few = and_parts _ _ some.1 in
+    (leb-true _ _ some.0, leb-true _ _ few.0, leb-true _ _ few.1)
 
 -- some kind has each version
 some_kind : (v : ℕ) → is_version v ≡ true → (k : Kind) × (version_of k ≡ v)
@@ -52,7 +50,7 @@ some_kind v h = go (v == 1) (v == 2) refl refl h where
   go false false p q h = absurd (cc)
 
 -- the kind with this version and number
-abbrev IsNamed : ℕ → ℕ → Kind → Type 0
+abbrev pub IsNamed : ℕ → ℕ → Kind → Type 0
 IsNamed v n x = (version_of x ≡ v) × (kind_number x ≡ n)
 
 -- one kind of a table, or one behind it
@@ -76,7 +74,7 @@ second_is n x e =
     one_of (n == 3) kind.Refused _ 2 n x refl (λ t. sym (eqb-true n 3 t)) (one_of (n == 11) kind.Give _ 2 n x refl (λ t. sym (eqb-true n 11 t)) (
     one_of (n == 12) kind.Given _ 2 n x refl (λ t. sym (eqb-true n 12 t)) (none_of 2 n x))) e
 
-named_is : (v n : ℕ) (x : Kind) → kind_named v n ≡ Some x → IsNamed v n x
+pub named_is : (v n : ℕ) (x : Kind) → kind_named v n ≡ Some x → IsNamed v n x
 named_is v n x e = go (v == 1) (v == 2) refl refl e where
   go : (t u : Bool) → (v == 1) ≡ t → (v == 2) ≡ u → cond t (first_kind n) (cond u (second_kind n) None) ≡ Some x → IsNamed v n x
   go true u p q h = let is = first_is n x h in (is.0 ∙ sym (eqb-true v 1 p), is.1)
