@@ -80,12 +80,7 @@ told-stays k s from c epoch (body.Ask number queue size paths) table sound =
     deed-stays s c k.now (front_asked (front_env k s c 0) (front_part s c) from epoch ask) sound
     (asked-keeps s.dispatch (front_env k s c 0) (env-of k s c 0) (front_part s c) epoch ask refl (record { some = table.1; within = table.2; few = table.0 }) (sound.tags c) (sound.each c))
 told-stays k s from c epoch (body.Ended reason snd rcv count) table sound = ended-stays k s c from epoch (record { reason = reason; snd = record { 0 = snd }; rcv = record { 0 = rcv } }) sound
-told-stays k s from c epoch (body.Offer parts) table sound = still-stays s k.now sound
-told-stays k s from c epoch (body.Forward bytes) table sound = still-stays s k.now sound
-told-stays k s from c epoch (body.Tag number nodes) table sound = still-stays s k.now sound
-told-stays k s from c epoch (body.Fetch r path) table sound = still-stays s k.now sound
-told-stays k s from c epoch (body.Content r bytes) table sound = still-stays s k.now sound
-told-stays k s from c epoch body.EndedAck table sound = still-stays s k.now sound
+told-stays k s from c epoch _ table sound = still-stays s k.now sound
 
 message-stays : (k : FrontSetting) (s : FrontState) (from : ℕ) (r : Result Message MsgFault) → IsTold r → IsFrontSound s → Stays k.now s (message_comes k s from r).0
 message-stays k s from (Err e) told sound = still-stays s k.now sound
