@@ -282,14 +282,10 @@ module _ (k : NodeSetting) (s : NodeState) where
 
   front-grows : (c epoch : ℕ) (b : Body) → Grows s (node_hears k s place.Front c epoch b)
   front-grows c epoch (body.Offer parts) = deed-grows c (node_offered (node_env k s c epoch) (node_part s c) parts) (offered-noted (node_env k s c epoch) (node_part s c) parts (offer_answer epoch (node_part s c).row))
-  front-grows c epoch body.Taken = still
   front-grows c epoch (body.Forward bytes) = deed-grows c (node_forwarded (node_env k s c epoch) (node_part s c) (decoded bytes c ToCluster)) (heard-noted (node_env k s c epoch) (node_part s c) (decoded bytes c ToCluster) (here epoch (node_part s c)))
-  front-grows c epoch (body.Ask number queue size paths) = still
   front-grows c epoch (body.Tag number nodes) = deed-grows c (node_tagged (node_env k s c epoch) (node_part s c) number nodes) (tag-noted (node_env k s c epoch) (node_part s c) number nodes (here epoch (node_part s c)))
-  front-grows c epoch (body.Fetch r path) = still
-  front-grows c epoch (body.Content r bytes) = still
-  front-grows c epoch (body.Ended reason snd rcv count) = still
   front-grows c epoch body.EndedAck = deed-grows c (node_acknowledged (node_env k s c epoch) (node_part s c)) (acked-noted (node_env k s c epoch) (node_part s c))
+  front-grows c epoch _ = still
 
   node-grows : (from c epoch : ℕ) (b : Body) → Grows s (node_hears k s (place.Node from) c epoch b)
   node-grows from c epoch (body.Fetch r path) = fetched-grows from c epoch r path (k.files path)

@@ -120,6 +120,9 @@ fn hear_front(
         Body::Content { .. } => return Ok(nothing(alloc)),
         Body::Ended { .. } => return Ok(nothing(alloc)),
         Body::EndedAck => return acknowledged(state, alloc, at),
+        Body::Refused => return Ok(nothing(alloc)),
+        Body::Give(_) => return Ok(nothing(alloc)),
+        Body::Given => return Ok(nothing(alloc)),
     }
 }
 
@@ -150,5 +153,8 @@ fn hear_node(
         Body::Content { r, bytes: _ } => return content(state, alloc, setting, at, from, r),
         Body::Ended { .. } => return Ok(nothing(alloc)),
         Body::EndedAck => return Ok(nothing(alloc)),
+        Body::Refused => return Ok(nothing(alloc)),
+        Body::Give(_) => return Ok(nothing(alloc)),
+        Body::Given => return Ok(nothing(alloc)),
     }
 }

@@ -90,6 +90,9 @@ fn bodies(alloc: Global) -> Result<Vec<Body>, NoMemory> {
             count: 0,
         },
         Body::EndedAck,
+        Body::Refused,
+        Body::Give(parts(alloc)?),
+        Body::Given,
     ]?;
     Ok(bodies)
 }

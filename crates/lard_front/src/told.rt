@@ -115,6 +115,9 @@ fn told(
         Body::Fetch { .. } => return Ok(nothing(alloc)),
         Body::Content { .. } => return Ok(nothing(alloc)),
         Body::EndedAck => return Ok(nothing(alloc)),
+        Body::Refused => return Ok(nothing(alloc)),
+        Body::Give(_) => return Ok(nothing(alloc)),
+        Body::Given => return Ok(nothing(alloc)),
     }
 }
 

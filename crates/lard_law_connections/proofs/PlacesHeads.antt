@@ -2,27 +2,17 @@
 use Rattle.std.proofs.Common.{◌≡◌, ℕ, ◌+◌, ◌<◌, ◌^◌, Bool, true, false, cond, not, ◌==◌, ◌&&◌, nat_le, nat_lt, List, [], ◌++◌, drop, length, option_map, Option, Some, None, Result, Ok, Err, refl, sym, ap, ◌∙◌, subst}
 use Rattle.std.specs.Int.{w32}
 use Rattle.std.proofs.lemmas.Nat.{from_be_bytes-to_be_bytes_2}
-use Rattle.lard_law_view.specs.Prelude.{Body, Kind, Message, MsgFault, ask_at, body_at, body_bytes, byte_at, connection_at, content_at, counted_at, decoded_message, ended_body_at, epoch_at, fetch_at, header_bytes, is_of_table, is_version, kind_named, kind_number, kind_of, length_at, nodes_of, number_at, number_byte, offer_at, parts_at, paths_at, reason_at, spelled_message, tag_at, taken_at, version_at, version_of, with_body, with_kind}
+use Rattle.lard_law_view.specs.Prelude.{Body, Kind, Message, MsgFault, ask_at, body_at, body_bytes, byte_at, connection_at, content_at, counted_at, decoded_message, ended_body_at, epoch_at, fetch_at, give_at, header_bytes, is_of_table, is_version, kind_named, kind_number, kind_of, length_at, nodes_of, number_at, number_byte, offer_at, parts_at, paths_at, reason_at, spelled_message, tag_at, taken_at, version_at, version_of, with_body, with_kind}
 use Rattle.lard_base.specs.declared.ids.TheConstants.ConnId.{MAX}
 use Rattle.lard_law_connections.specs.Places.{Head, message_head}
 use Rattle.lard_message.specs.declared.fault.MsgFault.TheVariants as fault
 use Rattle.lard_message.specs.declared.kind.Kind.TheVariants as kind
 use Rattle.lard_message.specs.declared.message.Body.TheVariants as body
 use Rattle.lard_message.proofs.Fields.{bind_then, some_same}
+use Rattle.lard_message.proofs.Whole.{named_again}
 
 abbrev pub head : Kind → ℕ → Head
 head k e = record { kind = k; epoch = e }
-
-pub named-again : (k : Kind) → kind_named (version_of k) (kind_number k) ≡ Some k
-named-again kind.Offer = refl
-named-again kind.Taken = refl
-named-again kind.Forward = refl
-named-again kind.Ask = refl
-named-again kind.Tag = refl
-named-again kind.Fetch = refl
-named-again kind.Content = refl
-named-again kind.Ended = refl
-named-again kind.EndedAck = refl
 
 abbrev with_epoch : ℕ → Option Kind → Option Head
 with_epoch e o = option_map (λ k. record { kind = k; epoch = e }) o
@@ -33,7 +23,7 @@ unfolding spelled_message
 spelled-some m =
     let k : Kind = kind_of m.body in
     let bytes : List ℕ = header_bytes (version_of k) (kind_number k) m.c m.epoch.0 (length (body_bytes m.body)) ++ body_bytes m.body in
-    ap (with_epoch (epoch_at bytes)) (named-again k)
+    ap (with_epoch (epoch_at bytes)) (named_again k)
 
 -- and its epoch
 pub spelled-head : (m : Message) → m.epoch.0 < 2 ^ 16 → message_head (spelled_message m) ≡ Some (head (kind_of m.body) m.epoch.0)
@@ -56,6 +46,10 @@ module _ (bytes : List ℕ) (b : Body) (rest : List ℕ) where
   offer-kind : offer_at bytes ≡ Some (b, rest) → kind_of b ≡ kind.Offer
   unfolding offer_at
   offer-kind e = bind_then (parts_at bytes) _ y e (λ parts p n. first-kind (body.Offer parts.0, parts.1) n)
+
+  give-kind : give_at bytes ≡ Some (b, rest) → kind_of b ≡ kind.Give
+  unfolding give_at
+  give-kind e = bind_then (parts_at bytes) _ y e (λ parts p n. first-kind (body.Give parts.0, parts.1) n)
 
   ask-kind : ask_at bytes ≡ Some (b, rest) → kind_of b ≡ kind.Ask
   unfolding ask_at
@@ -96,6 +90,9 @@ module _ (bytes : List ℕ) (b : Body) (rest : List ℕ) where
   body-kind kind.Content e = content-kind e
   body-kind kind.Ended e = ended-kind e
   body-kind kind.EndedAck e = first-kind (body.EndedAck, bytes) e
+  body-kind kind.Refused e = first-kind (body.Refused, bytes) e
+  body-kind kind.Give e = give-kind e
+  body-kind kind.Given e = first-kind (body.Given, bytes) e
 
 -- ---- bytes that were decoded
 
@@ -156,7 +153,7 @@ module _ (x m : Message) where
       let bytes : List ℕ = header_bytes (version_of k) (kind_number k) x.c x.epoch.0 (length (body_bytes x.body)) ++ body_bytes x.body in
       let a = let-through (nat_lt (length bytes) 10) fault.Short _ m h in
       let b = let-through (not (is_version (version_at bytes))) fault.Version _ m a in
-      let named : with_kind bytes (Some k) ≡ Ok m = subst (λ (o : Option Kind). with_kind bytes o ≡ Ok m) (named-again k) b in
+      let named : with_kind bytes (Some k) ≡ Ok m = subst (λ (o : Option Kind). with_kind bytes o ≡ Ok m) (named_again k) b in
       let d = let-through (nat_lt (length bytes) (10 + length_at bytes)) fault.Length _ m named in
       let f = let-through (nat_lt (10 + length_at bytes) (length bytes)) fault.Trailing _ m d in
       let g = let-through (not (nat_le 1 (connection_at bytes) && nat_le (connection_at bytes) MAX)) fault.Field _ m f in

@@ -1,7 +1,7 @@
 -- What a connection sees of its way: the packets by which it moves, and the records that tell of it.
 use Rattle.std.specs.Prelude.{ℕ, ◌+◌, ◌||◌, ◌==◌, nat_eq, max, Bool, true, false, if◌then◌else◌, List, [], ◌∷◌, ◌++◌, Option, Some, None, Result, Ok, Err}
 use Rattle.std.specs.List.{fold, list_any}
-use Rattle.lard_law_view.specs.Prelude.{Came, Client, Front, Message, MsgFault, Node, Place, Rec, Row, Said, Seen, SegFault, ToCluster, decoded, decoded_message, is_plain_syn, listed}
+use Rattle.lard_law_view.specs.Prelude.{Body, Came, Client, Front, Kind, Message, MsgFault, Node, Place, Rec, Row, Said, Seen, SegFault, ToCluster, decoded, decoded_message, is_plain_syn, listed}
 use Rattle.lard_law_connections.specs.Places.{Head, message_head}
 use Rattle.lard_journal.specs.declared.rec.Rec.TheVariants as rec
 use Rattle.lard_message.specs.declared.kind.Kind.TheVariants as kind
@@ -32,33 +32,23 @@ abbrev pub syn_on : ℕ → Place → Place → List ℕ → Bool
 syn_on c (Client d) Front bytes = is_syn (decoded bytes c ToCluster)
 syn_on c _ _ bytes = false
 
+-- the epoch of a message, where it is an Offer
+abbrev pub offer_said : ℕ → Body → Option ℕ
+offer_said epoch (body.Offer parts) = Some epoch
+offer_said epoch _ = None
+
 abbrev pub offer_epoch : Result Message MsgFault → Option ℕ
 offer_epoch (Err fault) = None
-offer_epoch (Ok m) = elim m.body [
-  | body.Offer parts ↦ Some m.epoch.0
-  | body.Taken ↦ None
-  | body.Forward bytes ↦ None
-  | body.Ask number queue size paths ↦ None
-  | body.Tag number nodes ↦ None
-  | body.Fetch r path ↦ None
-  | body.Content r bytes ↦ None
-  | body.Ended reason snd rcv count ↦ None
-  | body.EndedAck ↦ None
-]
+offer_epoch (Ok m) = offer_said m.epoch.0 m.body
+
+-- and where it is an Ended
+abbrev pub ended_said : ℕ → Body → Option ℕ
+ended_said epoch (body.Ended reason snd rcv count) = Some epoch
+ended_said epoch _ = None
 
 abbrev pub ended_epoch : Result Message MsgFault → Option ℕ
 ended_epoch (Err fault) = None
-ended_epoch (Ok m) = elim m.body [
-  | body.Offer parts ↦ None
-  | body.Taken ↦ None
-  | body.Forward bytes ↦ None
-  | body.Ask number queue size paths ↦ None
-  | body.Tag number nodes ↦ None
-  | body.Fetch r path ↦ None
-  | body.Content r bytes ↦ None
-  | body.Ended reason snd rcv count ↦ Some m.epoch.0
-  | body.EndedAck ↦ None
-]
+ended_epoch (Ok m) = ended_said m.epoch.0 m.body
 
 -- the epoch of an Offer that comes to node n, and that of an Ended that comes to the front end
 abbrev pub offer_on : ℕ → Place → Place → List ℕ → Option ℕ
@@ -119,19 +109,13 @@ abbrev pub from_node : ℕ → Rec → Option (List ℕ)
 from_node n (rec.Sent k (Node m) Front bytes) = if nat_eq m n then Some bytes else None
 from_node n _ = None
 
+abbrev pub is_forward_kind : Kind → Bool
+is_forward_kind kind.Forward = true
+is_forward_kind _ = false
+
 abbrev pub is_forward : Option Head → Bool
 is_forward None = false
-is_forward (Some h) = elim h.kind [
-  | kind.Offer ↦ false
-  | kind.Taken ↦ false
-  | kind.Forward ↦ true
-  | kind.Ask ↦ false
-  | kind.Tag ↦ false
-  | kind.Fetch ↦ false
-  | kind.Content ↦ false
-  | kind.Ended ↦ false
-  | kind.EndedAck ↦ false
-]
+is_forward (Some h) = is_forward_kind h.kind
 
 -- a Forward that the front end sends
 abbrev pub forward_to : Rec → Option (ℕ × List ℕ)

@@ -75,12 +75,12 @@ pub use Rattle.lard_journal.specs.Range.{IsChoiceInRange, IsConfigInRange, IsEve
 pub use Rattle.lard_journal.specs.Report.{file_text, rec_line, report}
 unfoldable pub use Rattle.lard_journal.specs.Report.{heading_line}
 pub use Rattle.lard_journal.specs.declared.rec.Rec.{Rec}
-pub use Rattle.lard_message.specs.Kinds.{first_kind, is_version, kind_named, kind_number, version_of}
+pub use Rattle.lard_message.specs.Kinds.{is_version, kind_named, kind_number, version_of}
 pub use Rattle.lard_message.specs.Laws.{AreBytes}
 pub use Rattle.lard_message.specs.Message.{FitsFields, IsCount, IsMessage, IsNodeNumber, IsOfTable, body_bytes, counted_bytes, flag_byte, header_bytes, kind_of, parts_bytes, parts_numbers, reason_byte}
 unfoldable pub use Rattle.lard_message.specs.Message.{spelled_message}
 pub use Rattle.lard_message.specs.Reading.{body_at, byte_at, connection_at, epoch_at, is_of_table, length_at, number_at, number_byte, taken_at, version_at, with_body, with_kind}
-unfoldable pub use Rattle.lard_message.specs.Reading.{ask_at, content_at, counted_at, decoded_message, ended_body_at, fetch_at, flag_at, nodes_of, offer_at, parts_at, paths_at, reason_at, tag_at}
+unfoldable pub use Rattle.lard_message.specs.Reading.{ask_at, content_at, counted_at, decoded_message, ended_body_at, fetch_at, flag_at, give_at, nodes_of, offer_at, parts_at, paths_at, reason_at, tag_at}
 pub use Rattle.lard_message.specs.declared.fault.MsgFault.{MsgFault}
 pub use Rattle.lard_message.specs.declared.kind.Kind.{Kind}
 pub use Rattle.lard_message.specs.declared.message.Body.{Body}

@@ -5,7 +5,7 @@ use Rattle.std.proofs.lemmas.Bool.{cond-false, le-ltb}
 use Rattle.std.proofs.lemmas.List.{append-nil}
 use Rattle.std.specs.Int.{from_be_bytes, to_be_bytes, w16, w32}
 use Rattle.std.specs.List.{AllByRecursion, flat_map}
-use Rattle.lard_law_view.specs.Prelude.{Body, Client, EndpointParts, FitsFields, Front, IsMessage, IsNumber, IsOfTable, IsPlaceInRange, IsUnspaced, Kind, MAX_SEGMENT_BYTES, Message, Node, Place, Reason, ask_at, body_bytes, byte_at, counted_bytes, decoded_message, ended_body_at, flag_byte, header_bytes, kind_number, kind_of, number_at, parts_numbers, paths_at, reason_at, reason_byte, spelled_message, version_of}
+use Rattle.lard_law_view.specs.Prelude.{Body, Client, EndpointParts, FitsFields, Front, IsMessage, IsNumber, IsOfTable, IsPlaceInRange, IsUnspaced, Kind, MAX_SEGMENT_BYTES, Message, Node, Place, Reason, ask_at, body_bytes, byte_at, counted_bytes, decoded_message, ended_body_at, flag_byte, header_bytes, kind_number, kind_of, number_at, parts_bytes, parts_numbers, paths_at, reason_at, reason_byte, spelled_message, version_of}
 use Rattle.lard_base.specs.declared.place.Reason.TheVariants as reason
 use Rattle.lard_rules.specs.Bounds as cluster
 use Rattle.lard_law_connections.proofs.PlacesHeads.{spelled-body}
@@ -15,7 +15,7 @@ use Rattle.lard_law_view.proofs.ByteLists.{AreBytes, bytes-16, bytes-32, bytes-a
 use Rattle.lard_message.specs.declared.kind.Kind.TheVariants as kind
 use Rattle.lard_message.specs.declared.message.Body.TheVariants as body
 use Rattle.lard_message.proofs.Fields.{bind_then, paths_again, some_same}
-use Rattle.lard_message.proofs.Whole.{spelled_so}
+use Rattle.lard_message.proofs.Whole.{kind_small, spelled_so}
 use Rattle.lard_rules.specs.Node.{message}
 
 -- ---- what a message says of paths
@@ -87,23 +87,14 @@ HasBytes (body.Ask number queue size paths) = (size < 256) × (length paths < 25
 HasBytes (body.Tag number nodes) = (length nodes < 256) × AreBytes nodes
 HasBytes (body.Fetch r path) = AreBytes path
 HasBytes (body.Content r bytes) = AreBytes bytes
+HasBytes (body.Give parts) = AreBytes parts.unread
 HasBytes _ = Unit {0}
-
-kind-byte : (k : Kind) → kind_number k < 256
-kind-byte kind.Offer = omega arith
-kind-byte kind.Taken = omega arith
-kind-byte kind.Forward = omega arith
-kind-byte kind.Ask = omega arith
-kind-byte kind.Tag = omega arith
-kind-byte kind.Fetch = omega arith
-kind-byte kind.Content = omega arith
-kind-byte kind.Ended = omega arith
-kind-byte kind.EndedAck = omega arith
 
 bytes-header : (k : Kind) (c epoch len : ℕ) → AreBytes (header_bytes (version_of k) (kind_number k) c epoch len)
 bytes-header k c epoch len =
-    bytes-append (1 ∷ kind_number k ∷ to_be_bytes w16 c ++ to_be_bytes w16 epoch) (to_be_bytes w32 len)
-    (bytes-append (1 ∷ kind_number k ∷ to_be_bytes w16 c) (to_be_bytes w16 epoch) (omega arith, (kind-byte k, bytes-16 c)) (bytes-16 epoch)) (bytes-32 len)
+    let small = kind_small k in
+    bytes-append (version_of k ∷ kind_number k ∷ to_be_bytes w16 c ++ to_be_bytes w16 epoch) (to_be_bytes w32 len)
+    (bytes-append (version_of k ∷ kind_number k ∷ to_be_bytes w16 c) (to_be_bytes w16 epoch) (omega (arith, small.1), (omega (arith, small.2), bytes-16 c)) (bytes-16 epoch)) (bytes-32 len)
 
 bytes-counted : (bytes : List ℕ) → AreBytes bytes → AreBytes (counted_bytes bytes)
 bytes-counted bytes h = bytes-append (to_be_bytes w16 (length bytes)) bytes (bytes-16 (length bytes)) h
@@ -132,9 +123,11 @@ reason-small reason.Closed = omega arith
 reason-small reason.Peer = omega arith
 reason-small reason.Limit = omega arith
 
+bytes-parts : (p : EndpointParts) → AreBytes p.unread → AreBytes (parts_bytes p)
+bytes-parts p h = bytes-append (parts_numbers p) (counted_bytes p.unread) (bytes-numbers p) (bytes-counted p.unread h)
+
 bytes-body : (b : Body) → HasBytes b → AreBytes (body_bytes b)
-bytes-body (body.Offer parts) h = bytes-append (parts_numbers parts) (counted_bytes parts.unread) (bytes-numbers parts) (bytes-counted parts.unread h)
-bytes-body body.Taken h = tt
+bytes-body (body.Offer parts) h = bytes-parts parts h
 bytes-body (body.Forward bytes) h = h
 bytes-body (body.Ask number queue size paths) h =
     bytes-append (to_be_bytes w32 number ++ to_be_bytes w32 queue) (size ∷ length paths ∷ flat_map counted_bytes paths)
@@ -145,7 +138,8 @@ bytes-body (body.Content r bytes) h = bytes-append (to_be_bytes w32 r ++ to_be_b
 bytes-body (body.Ended reason snd rcv count) h =
     bytes-append (reason_byte reason ∷ to_be_bytes w32 snd ++ to_be_bytes w32 rcv) (to_be_bytes w32 count)
     (bytes-append (reason_byte reason ∷ to_be_bytes w32 snd) (to_be_bytes w32 rcv) (reason-small reason, bytes-32 snd) (bytes-32 rcv)) (bytes-32 count)
-bytes-body body.EndedAck h = tt
+bytes-body (body.Give parts) h = bytes-parts parts h
+bytes-body _ h = tt
 
 pub bytes-message : (c epoch : ℕ) (b : Body) → HasBytes b → AreBytes (message c epoch b)
 unfolding spelled_message

@@ -80,14 +80,8 @@ module _ (env : NodeEnv) (m : WayMarks) (p : Part) (n : ℕ) (small : env.epoch 
         subst (λ (e : ℕ). IsDecided e (p.nodes n).row) (sym same) decided,
         λ at. ⊎_elim (λ (a : read.read ≤ r.asks). inl a) (λ (a : read.read ≡ r.asks + 1). inr (a, h.2, h.3)) (less-or-same read.read r.asks (omega (arith, h.0, le))),
       )
-  body-says (body.Offer parts) h msg d = quiet-body files m p n msg.epoch.0 msg.body (λ ask. let no : kind.Offer ≡ kind.Ask = kinds-same (record { c = env.serve.c; epoch = record { 0 = env.epoch }; body = body.Offer parts }) msg d ∙ ask in cc)
-  body-says body.Taken h msg d = quiet-body files m p n msg.epoch.0 msg.body (λ ask. let no : kind.Taken ≡ kind.Ask = kinds-same (record { c = env.serve.c; epoch = record { 0 = env.epoch }; body = body.Taken }) msg d ∙ ask in cc)
-  body-says (body.Forward bytes) h msg d = quiet-body files m p n msg.epoch.0 msg.body (λ ask. let no : kind.Forward ≡ kind.Ask = kinds-same (record { c = env.serve.c; epoch = record { 0 = env.epoch }; body = body.Forward bytes }) msg d ∙ ask in cc)
-  body-says (body.Tag number nodes) h msg d = quiet-body files m p n msg.epoch.0 msg.body (λ ask. let no : kind.Tag ≡ kind.Ask = kinds-same (record { c = env.serve.c; epoch = record { 0 = env.epoch }; body = body.Tag number nodes }) msg d ∙ ask in cc)
-  body-says (body.Fetch q path) h msg d = quiet-body files m p n msg.epoch.0 msg.body (λ ask. let no : kind.Fetch ≡ kind.Ask = kinds-same (record { c = env.serve.c; epoch = record { 0 = env.epoch }; body = body.Fetch q path }) msg d ∙ ask in cc)
-  body-says (body.Content q file) h msg d = quiet-body files m p n msg.epoch.0 msg.body (λ ask. let no : kind.Content ≡ kind.Ask = kinds-same (record { c = env.serve.c; epoch = record { 0 = env.epoch }; body = body.Content q file }) msg d ∙ ask in cc)
-  body-says (body.Ended reason snd rcv count) h msg d = quiet-body files m p n msg.epoch.0 msg.body (λ ask. let no : kind.Ended ≡ kind.Ask = kinds-same (record { c = env.serve.c; epoch = record { 0 = env.epoch }; body = body.Ended reason snd rcv count }) msg d ∙ ask in cc)
-  body-says body.EndedAck h msg d = quiet-body files m p n msg.epoch.0 msg.body (λ ask. let no : kind.EndedAck ≡ kind.Ask = kinds-same (record { c = env.serve.c; epoch = record { 0 = env.epoch }; body = body.EndedAck }) msg d ∙ ask in cc)
+  body-says b h msg d = quiet-body files m p n msg.epoch.0 msg.body (λ ask.
+      let no : kind_of b ≡ kind.Ask = kinds-same (record { c = env.serve.c; epoch = record { 0 = env.epoch }; body = b }) msg d ∙ ask in cc)
 
   -- what a turn says
   pub it-says : (ss : List (Place × List ℕ)) → Each (SaysIt env m r (p.nodes n).stay) ss → Each (LetterWays files m p) (map (letter (Node n)) ss)
@@ -121,14 +115,7 @@ module _ (env : NodeEnv) (m : WayMarks) (r : FrontRest) (x : Conn) (n : ℕ) (st
 
   body-asks : (b : Body) → BodyIs env m r stay b → Goes b
   body-asks (body.Ask number queue size paths) h = λ msg d. subst (BodyGoesOn its_files m) (sym (ask-reads env.serve.c env.epoch number queue size paths h.1 msg d).is) h.2
-  body-asks (body.Offer parts) h = other-goes its_files m env.serve.c env.epoch (body.Offer parts) (λ ask. let no : kind.Offer ≡ kind.Ask = ask in cc)
-  body-asks body.Taken h = other-goes its_files m env.serve.c env.epoch body.Taken (λ ask. let no : kind.Taken ≡ kind.Ask = ask in cc)
-  body-asks (body.Forward bytes) h = other-goes its_files m env.serve.c env.epoch (body.Forward bytes) (λ ask. let no : kind.Forward ≡ kind.Ask = ask in cc)
-  body-asks (body.Tag number nodes) h = other-goes its_files m env.serve.c env.epoch (body.Tag number nodes) (λ ask. let no : kind.Tag ≡ kind.Ask = ask in cc)
-  body-asks (body.Fetch q path) h = other-goes its_files m env.serve.c env.epoch (body.Fetch q path) (λ ask. let no : kind.Fetch ≡ kind.Ask = ask in cc)
-  body-asks (body.Content q file) h = other-goes its_files m env.serve.c env.epoch (body.Content q file) (λ ask. let no : kind.Content ≡ kind.Ask = ask in cc)
-  body-asks (body.Ended reason snd rcv count) h = other-goes its_files m env.serve.c env.epoch (body.Ended reason snd rcv count) (λ ask. let no : kind.Ended ≡ kind.Ask = ask in cc)
-  body-asks body.EndedAck h = other-goes its_files m env.serve.c env.epoch body.EndedAck (λ ask. let no : kind.EndedAck ≡ kind.Ask = ask in cc)
+  body-asks b h = other-goes its_files m env.serve.c env.epoch b (λ ask. let no : kind_of b ≡ kind.Ask = ask in cc)
 
   -- what a turn says
   pub it-asks : (ss : List (Place × List ℕ)) → Each (SaysIt env m r stay) ss → Each (LetterAsks its_files m x) (map (letter (Node n)) ss)

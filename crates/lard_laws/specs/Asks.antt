@@ -1,7 +1,7 @@
 -- What the front end heard and answered of Asks: what comes, what it writes of each, and what it keeps of the last.
 use Rattle.std.specs.Prelude.{ℕ, ◌+◌, ◌==◌, nat_lt, ◌&&◌, Bool, true, false, if◌then◌else◌, List, [], ◌∷◌, ◌++◌, Option, Some, None, Result, Ok, Err}
 use Rattle.std.specs.List.{fold}
-use Rattle.lard_law_view.specs.Prelude.{Came, Front, Message, MsgFault, Node, Place, Rec, Row, Seen, decoded_message}
+use Rattle.lard_law_view.specs.Prelude.{Body, Came, Front, Kind, Message, MsgFault, Node, Place, Rec, Row, Seen, decoded_message}
 use Rattle.lard_law_connections.specs.MotionStory.{Story, story_step}
 use Rattle.lard_law_connections.specs.MotionStory as motion
 use Rattle.lard_law_connections.specs.Places.{Head, message_head}
@@ -20,19 +20,14 @@ pub record Asking : Type 0 where
   pub size : ℕ
   pub paths : List (List ℕ)
 
+-- what a message from node n asks, where it is an Ask
+abbrev pub ask_said : ℕ → ℕ → Body → Option Asking
+ask_said n epoch (body.Ask number queue size paths) = Some (record { from = n; epoch = epoch; number = number; queue = queue; size = size; paths = paths })
+ask_said n epoch _ = None
+
 abbrev pub ask_from : ℕ → Result Message MsgFault → Option Asking
 ask_from n (Err fault) = None
-ask_from n (Ok m) = elim m.body [
-  | body.Offer parts ↦ None
-  | body.Taken ↦ None
-  | body.Forward bytes ↦ None
-  | body.Ask number queue size paths ↦ Some (record { from = n; epoch = m.epoch.0; number = number; queue = queue; size = size; paths = paths })
-  | body.Tag number nodes ↦ None
-  | body.Fetch r path ↦ None
-  | body.Content r bytes ↦ None
-  | body.Ended reason snd rcv count ↦ None
-  | body.EndedAck ↦ None
-]
+ask_from n (Ok m) = ask_said n m.epoch.0 m.body
 
 -- one that comes to the front end and decodes
 abbrev pub ask_on : Place → Place → List ℕ → Option Asking
@@ -66,19 +61,13 @@ abbrev pub end_in : Rec → Option ℕ
 end_in (rec.BatchOver c) = Some c
 end_in _ = None
 
+abbrev pub is_tag_kind : Kind → Bool
+is_tag_kind kind.Tag = true
+is_tag_kind _ = false
+
 abbrev pub is_tag : Option Head → Bool
 is_tag None = false
-is_tag (Some h) = elim h.kind [
-  | kind.Offer ↦ false
-  | kind.Taken ↦ false
-  | kind.Forward ↦ false
-  | kind.Ask ↦ false
-  | kind.Tag ↦ true
-  | kind.Fetch ↦ false
-  | kind.Content ↦ false
-  | kind.Ended ↦ false
-  | kind.EndedAck ↦ false
-]
+is_tag (Some h) = is_tag_kind h.kind
 
 -- a Tag that the front end sends, and the node to which it goes
 abbrev pub tag_to : Rec → Option (ℕ × List ℕ)

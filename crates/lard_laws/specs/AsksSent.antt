@@ -1,7 +1,7 @@
 -- Which Asks a node sends, in words of the journal: the next one of a stay, or the last one again.
 use Rattle.std.specs.Prelude.{◌≡◌, ◌⊎◌, ℕ, ◌+◌, ◌==◌, nat_eq, ◌&&◌, Bool, true, false, if◌then◌else◌, List, [], ◌∷◌, ◌++◌, length, Option, Some, None}
 use Rattle.std.specs.List.{AllByRecursion, fold}
-use Rattle.lard_law_view.specs.Prelude.{Front, Node, Rec, Seen, net_of, own, seen_on}
+use Rattle.lard_law_view.specs.Prelude.{Front, Kind, Node, Rec, Seen, net_of, own, seen_on}
 use Rattle.lard_law_connections.specs.MotionStory.{of_row, picked}
 use Rattle.lard_law_connections.specs.Places.{Head, message_head}
 use Rattle.lard_counts.specs.Stores.{jobs}
@@ -12,19 +12,13 @@ use Rattle.lard_rules.specs.Node.{message}
 
 -- ---- Asks that are sent
 
+abbrev pub is_ask_kind : Kind → Bool
+is_ask_kind kind.Ask = true
+is_ask_kind _ = false
+
 abbrev pub is_ask : ℕ → Option Head → Bool
 is_ask e None = false
-is_ask e (Some h) = elim h.kind [
-  | kind.Offer ↦ false
-  | kind.Taken ↦ false
-  | kind.Forward ↦ false
-  | kind.Ask ↦ h.epoch == e
-  | kind.Tag ↦ false
-  | kind.Fetch ↦ false
-  | kind.Content ↦ false
-  | kind.Ended ↦ false
-  | kind.EndedAck ↦ false
-]
+is_ask e (Some h) = is_ask_kind h.kind && h.epoch == e
 
 -- an Ask of epoch e that node n sends to the front end
 abbrev pub ask_by : ℕ → ℕ → Rec → Option (List ℕ)
