@@ -16,6 +16,7 @@ use Rattle.lard_handoff_back.specs.declared.row.BackConn.TheVariants as stage
 use Rattle.lard_handoff_back.specs.declared.row.BackRow.{BackRow}
 use Rattle.lard_handoff_back.specs.Back.{Backs, back_acknowledged, awaits_ack, back_with_stage}
 use Rattle.lard_handoff_back.specs.Row.{is_ended}
+use Rattle.lard_handoff_back.proofs.Putting.{row_put_in}
 use Rattle.lard_rules.specs.declared.node.NodeState.{NodeState}
 use Rattle.lard_rules.specs.declared.node.NodeTurn.{NodeTurn}
 use Rattle.lard_rules.specs.declared.stay.Stay.{Stay}
@@ -40,45 +41,45 @@ acked-rest e (Some row) v h r = go row.stage v (and_parts (row.epoch.0 == e) (is
   go stage.Ended (Some s) h r = r
   go stage.Gone v h r = r
 
-acked-row : (m : Backs) (c e : ℕ) (o : Option BackRow) → awaits_ack e o ≡ true → back_acknowledged m c e o ≡ put_or m c (gone o)
+acked-row : (m : Backs) (c e : ℕ) (o : Option BackRow) → awaits_ack e o ≡ true → back_acknowledged m c o (awaits_ack e o) ≡ put_or m c (gone o)
 acked-row m c e None h = absurd cc
 acked-row m c e (Some row) h = cond-true (awaits_ack e (Some row)) (back_with_stage m c stage.Gone (Some row)) m h
 
 -- the row and what is held, as they are then
 abbrev pub acked : NodeState → At → NodeState
-acked s at = record s { conns = back_acknowledged s.conns at.c at.epoch.0 (get s.conns at.c); kept = pending_settled s.kept at.c Ended 0 }
+acked s at = record s { conns = record s.conns { rows = back_acknowledged s.conns.rows at.c (get s.conns.rows at.c) (awaits_ack at.epoch.0 (get s.conns.rows at.c)) }; kept = pending_settled s.kept at.c Ended 0 }
 
 abbrev acked-part : NodePart → NodePart
 acked-part p = record p { row = gone p.row; kept = without Ended 0 p.kept }
 
-acked-put : (s : NodeState) (at : At) → IsNodeSound s → awaits_ack at.epoch.0 (get s.conns at.c) ≡ true → acked s at ≡ node_put s at.c (acked-part (node_part s at.c))
+acked-put : (s : NodeState) (at : At) → IsNodeSound s → awaits_ack at.epoch.0 (get s.conns.rows at.c) ≡ true → acked s at ≡ node_put s at.c (acked-part (node_part s at.c))
 acked-put s at sound h = λ i. record s {
-  conns = acked-row s.conns at.c at.epoch.0 (get s.conns at.c) h i;
+  conns = ((λ j. record s.conns { rows = acked-row s.conns.rows at.c at.epoch.0 (get s.conns.rows at.c) h j }) ∙ row_put_in s.conns at.c (gone (get s.conns.rows at.c))) i;
   stays = sym (put_got s.stays at.c) i;
   kept = settled_is s.kept at.c Ended 0 (sound.kept at.c) i;
   fetches = sym (list_got s.fetches at.c (sound.fetches at.c)) i;
 }
 
 pub acked-does : (k : NodeSetting) (s t n : NodeState) (at : At) (was : Flags) (turn : NodeTurn) (out : Out) → t ≡ acked s at → was ≡ timer_flags (node_part s at.c) → at.n ≡ k.n → turn ≡ node_saying [] → IsNodeSound s
-    → awaits_ack at.epoch.0 (get s.conns at.c) ≡ true → (n, out) ≡ told_at t at was turn
+    → awaits_ack at.epoch.0 (get s.conns.rows at.c) ≡ true → (n, out) ≡ told_at t at was turn
     → (n, out) ≡ node_deed k s at.c (node_acknowledged (node_env k s at.c at.epoch.0) (node_part s at.c))
 acked-does k s t n at was turn out is flags node quiet sound h told =
     told
     ∙ told-did k s t at was (acked-part (node_part s at.c)) turn (is ∙ acked-put s at sound h) flags node
     ∙ ap (λ (u : NodeTurn). node_deed k s at.c (Does (acked-part (node_part s at.c), u))) quiet
-    ∙ ap (node_deed k s at.c) (sym (cond-true {A = NodeDeed} (awaits_ack at.epoch.0 (get s.conns at.c)) (Does (acked-part (node_part s at.c), node_saying [])) Drops h))
+    ∙ ap (node_deed k s at.c) (sym (cond-true {A = NodeDeed} (awaits_ack at.epoch.0 (get s.conns.rows at.c)) (Does (acked-part (node_part s at.c), node_saying [])) Drops h))
 
 pub acked-by : (s t n : NodeState) (at : At) (was : Flags) (turn : NodeTurn) (r : Result Out NoMemory) → t ≡ acked s at → was ≡ timer_flags (node_part s at.c) → turn ≡ node_saying [] → IsNodeSound s
-    → awaits_ack at.epoch.0 (get s.conns at.c) ≡ true → IfOk r (λ out. (n, out) ≡ told_at t at was turn)
+    → awaits_ack at.epoch.0 (get s.conns.rows at.c) ≡ true → IfOk r (λ out. (n, out) ≡ told_at t at was turn)
     → IfOk r (λ out. (k : NodeSetting) → k.n ≡ at.n → (n, out) ≡ node_deed k s at.c (node_acknowledged (node_env k s at.c at.epoch.0) (node_part s at.c)))
 acked-by s t n at was turn (Ok out) is flags quiet sound h told = λ k node. acked-does k s t n at was turn out is flags (sym node) quiet sound h told
 acked-by s t n at was turn (Err e) is flags quiet sound h told = tt
 
 pub acked-sound : (s t n : NodeState) (at : At) (was : Flags) (turn : NodeTurn) (r : Result Out NoMemory) → t ≡ acked s at → IsNodeSound s
-    → awaits_ack at.epoch.0 (get s.conns at.c) ≡ true → IfOk r (λ out. (n, out) ≡ told_at t at was turn) → OnOk r (IsNodeSound n)
+    → awaits_ack at.epoch.0 (get s.conns.rows at.c) ≡ true → IfOk r (λ out. (n, out) ≡ told_at t at was turn) → OnOk r (IsNodeSound n)
 acked-sound s t n at was turn (Ok out) is sound h told =
     let q : NodePart = acked-part (node_part s at.c) in
-    let rest : IsAtRest q.row q.stay = acked-rest at.epoch.0 (get s.conns at.c) (get s.stays at.c) h (sound.stays at.c) in
+    let rest : IsAtRest q.row q.stay = acked-rest at.epoch.0 (get s.conns.rows at.c) (get s.stays at.c) h (sound.stays at.c) in
     let put : IsNodeSound t = subst IsNodeSound (sym (is ∙ acked-put s at sound h)) (put-sound s at.c q rest sound) in
     subst IsNodeSound (ap (λ (x : NodeState × Out). x.0) (sym told)) (told-sound t turn put)
 acked-sound s t n at was turn (Err e) is sound h told = tt

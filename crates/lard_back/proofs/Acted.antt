@@ -20,6 +20,7 @@ use Rattle.lard_handoff_back.specs.declared.row.BackRow.{BackRow}
 use Rattle.lard_handoff_back.specs.declared.row.BackConn.TheVariants as stage
 use Rattle.lard_handoff_back.specs.Back.{staying}
 use Rattle.lard_handoff_back.specs.Row.{back_held}
+use Rattle.lard_handoff_back.specs.Table.{Table, table_begun}
 use Rattle.lard_rules.specs.declared.node.NodeState.{NodeState}
 use Rattle.lard_rules.specs.declared.node.NodeTurn.{NodeTurn}
 use Rattle.lard_rules.specs.declared.stay.Stay.{Stay}
@@ -52,16 +53,17 @@ empty-put m c ks all q h = elim (cases_eq q c) [
 pub put-sound : (s : NodeState) (c : ℕ) (q : NodePart) → IsAtRest q.row q.stay → IsNodeSound s → IsNodeSound (node_put s c q)
 put-sound s c q rest sound = record {
   stays = λ p. elim (cases_eq p c) [
-    | inl e ↦ subst (λ n. IsAtRest (get (node_put s c q).conns n) (get (node_put s c q).stays n)) (sym e)
-        (subst (λ row. IsAtRest row (get (node_put s c q).stays c)) (sym (get_put_same s.conns c q.row)) (subst (IsAtRest q.row) (sym (get_put_same s.stays c q.stay)) rest))
-    | inr n ↦ subst (λ row. IsAtRest row (get (node_put s c q).stays p)) (sym (get_put_other s.conns c p q.row n)) (subst (IsAtRest (get s.conns p)) (sym (get_put_other s.stays c p q.stay n)) (sound.stays p))
+    | inl e ↦ subst (λ n. IsAtRest (get (node_put s c q).conns.rows n) (get (node_put s c q).stays n)) (sym e)
+        (subst (λ row. IsAtRest row (get (node_put s c q).stays c)) (sym (get_put_same s.conns.rows c q.row)) (subst (IsAtRest q.row) (sym (get_put_same s.stays c q.stay)) rest))
+    | inr n ↦ subst (λ row. IsAtRest row (get (node_put s c q).stays p)) (sym (get_put_other s.conns.rows c p q.row n)) (subst (IsAtRest (get s.conns.rows p)) (sym (get_put_other s.stays c p q.stay n)) (sound.stays p))
   ];
+  remains = sound.remains;
   kept = empty-put s.kept c q.kept sound.kept;
   fetches = empty-put s.fetches c q.fetches sound.fetches;
 }
 
 pub told-sound : (s : NodeState) (t : NodeTurn) → IsNodeSound s → IsNodeSound (stores_told s t)
-told-sound s t sound = record { stays = sound.stays; kept = sound.kept; fetches = sound.fetches }
+told-sound s t sound = record { stays = sound.stays; remains = sound.remains; kept = sound.kept; fetches = sound.fetches }
 
 pub ends-rest : (env : NodeEnv) (p : NodePart) (w : Work) (e : Ending) → EndsSound e w → IsAtRest (kept_after env p w e).row (kept_after env p w e).stay
 ends-rest env p w (ending.Here b count) s = s
@@ -75,12 +77,12 @@ both-parts (Some b) None x h = let none : None ≡ Some x = h in absurd cc
 both-parts (Some b) (Some s) x h = let same : (b, s) ≡ x = cc in (ap (λ (y : ControlBlock × Stay). Some y.0) same, ap (λ (y : ControlBlock × Stay). Some y.1) same)
 
 pub here-parts : (s : NodeState) (at : At) (x : ControlBlock × Stay) → here at.epoch.0 (node_part s at.c) ≡ Some x
-    → (staying at.epoch.0 (get s.conns at.c) ≡ Some x.0) × (get s.stays at.c ≡ Some x.1)
-here-parts s at x h = both-parts (staying at.epoch.0 (get s.conns at.c)) (get s.stays at.c) x h
+    → (staying at.epoch.0 (get s.conns.rows at.c) ≡ Some x.0) × (get s.stays at.c ≡ Some x.1)
+here-parts s at x h = both-parts (staying at.epoch.0 (get s.conns.rows at.c)) (get s.stays at.c) x h
 
 -- all of it is put back: this is what the rules say, and the state is sound
 pub gone-ends : (k : NodeSetting) (s : NodeState) (at : At) (was : Flags) (before : List (Place × List ℕ)) (b : ControlBlock) (w : Work) (given : Ending × Turn) (n : NodeState) (out : Out)
-    → staying at.epoch.0 (get s.conns at.c) ≡ Some b → IsNodeSound s → IsGone (node_lent s at.c) at was before w given n out
+    → staying at.epoch.0 (get s.conns.rows at.c) ≡ Some b → IsNodeSound s → IsGone (node_lent s at.c) at was before w given n out
     → ((n, out) ≡ ends_with k s at was before w given) × IsNodeSound n
 gone-ends k s at was before b w given n out staying sound gone =
     let is : (n, out) ≡ ends_with k s at was before w given = gone.closes ∙ closes-is k s at was before b w given staying (sound.kept at.c) (sound.fetches at.c) in
@@ -105,7 +107,7 @@ gone-acted k s t at was f x w n out found lends is sound gone =
 pub stay-sound : (s : NodeState) (at : At) (b : ControlBlock) (v : Stay) → here at.epoch.0 (node_part s at.c) ≡ Some (b, v) → IsNodeSound s → IsStaySound b v
 stay-sound s at b v found sound =
     let parts = here-parts s at (b, v) found in
-    go (get s.conns at.c) parts.0 (subst (IsAtRest (get s.conns at.c)) parts.1 (sound.stays at.c)) where
+    go (get s.conns.rows at.c) parts.0 (subst (IsAtRest (get s.conns.rows at.c)) parts.1 (sound.stays at.c)) where
       in-stage : (stage : BackConn) → back_held stage ≡ Some b → IsStaying stage (Some v) → IsStaySound b v
       in-stage (stage.Here d) e h = let same : d ≡ b = cc in subst (λ d. IsStaySound d v) same h
       in-stage stage.Out e h = absurd h
@@ -167,9 +169,10 @@ none-empty m e c h = let none : None ≡ Some [] = sym (table.get-empty nat_cmp 
 none-found : {V : Type 0} (m : FinMap nat_cmp V) (c : ℕ) → m ≡ table.empty → get m c ≡ None
 none-found m c e = ap (λ l. get l c) e ∙ table.get-empty nat_cmp c
 
-pub none_sound : (s : NodeState) → s.conns ≡ table.empty → s.stays ≡ table.empty → s.kept ≡ table.empty → s.fetches ≡ table.empty → IsNodeSound s
+pub none_sound : (s : NodeState) → s.conns ≡ table_begun → s.stays ≡ table.empty → s.kept ≡ table.empty → s.fetches ≡ table.empty → IsNodeSound s
 none_sound s conns stays kept fetches = record {
-  stays = λ c. subst (λ row. IsAtRest row (get s.stays c)) (sym (none-found s.conns c conns)) (subst (IsAtRest None) (sym (none-found s.stays c stays)) tt);
+  stays = λ c. subst (λ row. IsAtRest row (get s.stays c)) (sym (none-found s.conns.rows c (ap (λ (t : Table). t.rows) conns))) (subst (IsAtRest None) (sym (none-found s.stays c stays)) tt);
+  remains = ap (λ (t : Table). t.leaving) conns;
   kept = none-empty s.kept kept;
   fetches = none-empty s.fetches fetches;
 }

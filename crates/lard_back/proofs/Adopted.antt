@@ -1,5 +1,5 @@
 -- A connection is adopted, and its stay begins.
-use Rattle.std.proofs.Common.{◌≡◌, ℕ, ◌==◌, nat_lt, ◌&&◌, Bool, true, false, cond, List, [], ◌∷◌, ◌++◌, Option, Some, None, Result, Ok, Err, IfOk, OnOk, refl, sym, ap, subst, ◌∙◌, arith}
+use Rattle.std.proofs.Common.{◌≡◌, ℕ, ◌==◌, nat_lt, ◌&&◌, Bool, true, false, cond, List, [], ◌∷◌, ◌++◌, Option, Some, None, Result, Ok, Err, IfOk, OnOk, refl, sym, ap, subst, ◌∙◌, arith, rules}
 use Rattle.std.proofs.lemmas.Bool.{and_parts, cond-true, eq-eqb}
 use Rattle.std.specs.FinMap.{get, insert, remove}
 use Rattle.lard_back.specs.declared.hand.At.{At}
@@ -23,9 +23,12 @@ use Rattle.lard_handoff_back.specs.declared.row.BackConn.{BackConn}
 use Rattle.lard_handoff_back.specs.declared.row.BackConn.TheVariants as stage
 use Rattle.lard_handoff_back.specs.declared.row.BackRow.{BackRow}
 use Rattle.lard_handoff_back.specs.declared.table.Adopt.{Adopt}
-use Rattle.lard_handoff_back.specs.declared.table.Adopt.TheVariants.{New, Again, Stale}
-use Rattle.lard_handoff_back.specs.Back.{Backs, after_offer, offer_answer, stay_row, staying, back_taken}
+use Rattle.lard_handoff_back.specs.declared.table.Adopt.TheVariants.{New, Again, Stale, Refuse}
+use Rattle.lard_handoff_back.specs.Back.{offer_answer, stay_row, staying, back_taken}
+use Rattle.lard_handoff_back.specs.Leaving.{after_offer}
 use Rattle.lard_handoff_back.specs.Row.{is_gone}
+use Rattle.lard_handoff_back.specs.Table.{Table}
+use Rattle.lard_handoff_back.proofs.Putting.{put_in_twice}
 use Rattle.lard_journal.specs.declared.rec.Rec.{Rec}
 use Rattle.lard_journal.specs.declared.rec.Rec.TheVariants as rec
 use Rattle.lard_rules.specs.declared.node.NodeState.{NodeState}
@@ -80,16 +83,17 @@ begun-is env p b w notes seen new noted =
 
 -- ---- the table
 
-module _ (m : Backs) (c : ℕ) (epoch : Epoch) (parts : EndpointParts) where
+module _ (m : Table) (c : ℕ) (epoch : Epoch) (parts : EndpointParts) where
   -- the endpoint is here in the epoch of its Offer
-  stays-new : staying epoch.0 (get (insert m c (stay_row epoch parts)) c) ≡ Some (adopted parts)
-  stays-new = ap (staying epoch.0) (get_inserted m c (stay_row epoch parts)) ∙ cond-true (epoch.0 == epoch.0) (Some (adopted parts)) None (eq-eqb epoch.0 epoch.0 refl)
+  stays-new : staying epoch.0 (get (insert m.rows c (stay_row epoch parts)) c) ≡ Some (adopted parts)
+  stays-new = ap (staying epoch.0) (get_inserted m.rows c (stay_row epoch parts)) ∙ cond-true (epoch.0 == epoch.0) (Some (adopted parts)) None (eq-eqb epoch.0 epoch.0 refl)
 
-  is-new : (n : Backs) → n ≡ after_offer m c epoch parts (offer_answer epoch.0 (get m c)) → New ≡ offer_answer epoch.0 (get m c) → n ≡ insert m c (stay_row epoch parts)
+  is-new : (n : Table) → n ≡ after_offer m c epoch parts (offer_answer epoch.0 (get m.rows c)) → New ≡ offer_answer epoch.0 (get m.rows c)
+      → n ≡ record m { rows = insert m.rows c (stay_row epoch parts) }
   is-new n is new = is ∙ ap (after_offer m c epoch parts) (sym new)
 
-  pub found-new : (n : Backs) → n ≡ after_offer m c epoch parts (offer_answer epoch.0 (get m c)) → New ≡ offer_answer epoch.0 (get m c) → staying epoch.0 (get n c) ≡ Some (adopted parts)
-  found-new n is new = ap (λ (l : Backs). staying epoch.0 (get l c)) (is-new n is new) ∙ stays-new
+  pub found-new : (n : Table) → n ≡ after_offer m c epoch parts (offer_answer epoch.0 (get m.rows c)) → New ≡ offer_answer epoch.0 (get m.rows c) → staying epoch.0 (get n.rows c) ≡ Some (adopted parts)
+  found-new n is new = ap (λ (l : Table). staying epoch.0 (get l.rows c)) (is-new n is new) ∙ stays-new
 
 -- nothing stays of a connection that is new
 new-gone : (st : BackConn) (v : Option Stay) → is_gone st ≡ true → IsStaying st v → v ≡ None
@@ -108,6 +112,10 @@ new-rest e (Some row) v new r = by (row.epoch.0 == e) (nat_lt row.epoch.0 e && i
   by false true is h = new-gone row.stage v (and_parts (nat_lt row.epoch.0 e) (is_gone row.stage) is).1 r
   by false false is h = absurd cc
 
+-- no row refuses
+pub no-refusal : (e : ℕ) (o : Option BackRow) → Refuse ≡ offer_answer e o → ⊥
+no-refusal e o h = search rules
+
 -- ---- the rule
 
 abbrev Begun : NodeEnv → EndpointParts → Work
@@ -115,7 +123,7 @@ Begun env parts = goes_on env (state_of (reads_batch env true (node_begins env p
 
 -- the connection is here, and has no stay yet
 abbrev adopting : NodeState → At → EndpointParts → NodeState
-adopting s at parts = record s { conns = insert s.conns at.c (stay_row at.epoch parts) }
+adopting s at parts = record s { conns = record s.conns { rows = insert s.conns.rows at.c (stay_row at.epoch parts) } }
 
 module _ (k : NodeSetting) (s : NodeState) (at : At) (parts : EndpointParts) where
   abbrev ruled : NodeEnv
@@ -125,7 +133,7 @@ module _ (k : NodeSetting) (s : NodeState) (at : At) (parts : EndpointParts) whe
   Offered n out = (n, out) ≡ node_deed k s at.c (node_offered ruled (node_part s at.c) parts)
 
   abbrev Answers : Adopt → Type 0
-  Answers a = a ≡ offer_answer at.epoch.0 (get s.conns at.c)
+  Answers a = a ≡ offer_answer at.epoch.0 (get s.conns.rows at.c)
 
   -- its row counts for nothing in what is put back
   part-same : (env : NodeEnv) (w : Work) (e : Ending) → kept_after env (node_part (adopting s at parts) at.c) w e ≡ kept_after env (node_part s at.c) w e
@@ -137,20 +145,20 @@ module _ (k : NodeSetting) (s : NodeState) (at : At) (parts : EndpointParts) whe
       let q : NodePart = kept_after (node_env_of k s at) (node_part s at.c) w given.0 in
       let t : NodeTurn = turn_by (node_env_of k s at) before w given in
       (λ i. (stores_told (node_put (adopting s at parts) at.c (part-same (node_env_of k s at) w given.0 i)) t, out_at at was (part-same (node_env_of k s at) w given.0 i) t))
-      ∙ (λ i. (stores_told (record (node_put s at.c q) { conns = put_twice s.conns at.c (Some (stay_row at.epoch parts)) q.row i }) t, out_at at was q t))
+      ∙ (λ i. (stores_told (record (node_put s at.c q) { conns = put_in_twice s.conns at.c (Some (stay_row at.epoch parts)) q.row q.beside i }) t, out_at at was q t))
 
   none-stays : Answers New → IsNodeSound s → remove s.stays at.c ≡ s.stays
-  none-stays new sound = ap (put_or s.stays at.c) (sym (new-rest at.epoch.0 (get s.conns at.c) (get s.stays at.c) new (sound.stays at.c))) ∙ put_got s.stays at.c
+  none-stays new sound = ap (put_or s.stays at.c) (sym (new-rest at.epoch.0 (get s.conns.rows at.c) (get s.stays at.c) new (sound.stays at.c))) ∙ put_got s.stays at.c
 
   -- what is in hand was taken out of this state
-  pub lent-new : {t : NodeState} {m : Backs} → m ≡ after_offer s.conns at.c at.epoch parts (offer_answer at.epoch.0 (get s.conns at.c))
-      → t ≡ record s { conns = back_taken m at.c (get m at.c) (staying at.epoch.0 (get m at.c)) } → Answers New → IsNodeSound s → t ≡ node_lent (adopting s at parts) at.c
+  pub lent-new : {t : NodeState} {m : Table} → m ≡ after_offer s.conns at.c at.epoch parts (offer_answer at.epoch.0 (get s.conns.rows at.c))
+      → t ≡ record s { conns = record m { rows = back_taken m.rows at.c (get m.rows at.c) (staying at.epoch.0 (get m.rows at.c)) } } → Answers New → IsNodeSound s → t ≡ node_lent (adopting s at parts) at.c
   lent-new {m = m} after lends new sound =
-      let now : Backs = insert s.conns at.c (stay_row at.epoch parts) in
+      let now : Table = record s.conns { rows = insert s.conns.rows at.c (stay_row at.epoch parts) } in
       let is : m ≡ now = is-new s.conns at.c at.epoch parts m after new in
       lends
-      ∙ (λ i. record s { conns = back_taken (is i) at.c (get (is i) at.c) (staying at.epoch.0 (get (is i) at.c)) })
-      ∙ (λ i. record s { conns = back_taken now at.c (get now at.c) (stays-new s.conns at.c at.epoch parts i) })
+      ∙ (λ i. record s { conns = record (is i) { rows = back_taken (is i).rows at.c (get (is i).rows at.c) (staying at.epoch.0 (get (is i).rows at.c)) } })
+      ∙ (λ i. record s { conns = record now { rows = back_taken now.rows at.c (get now.rows at.c) (stays-new s.conns at.c at.epoch parts i) } })
       ∙ (λ i. record (node_lent (adopting s at parts) at.c) { stays = sym (none-stays new sound) i })
 
   abbrev At_end : At → Flags → NodeState × Out

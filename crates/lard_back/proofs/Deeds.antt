@@ -123,7 +123,7 @@ forward-by k s at m n r done flags node is =
 put-over : (s t : NodeState) (c : ℕ) (ks fs : List Kept) (q : NodePart) → t.conns ≡ s.conns → t.stays ≡ s.stays → t.cache ≡ s.cache → t.disk ≡ s.disk
     → t.kept ≡ put_list s.kept c ks → t.fetches ≡ put_list s.fetches c fs → node_put t c q ≡ node_put s c q
 put-over s t c ks fs q conns stays cache disk kept fetches = λ i. record {
-  conns = put_or (conns i) c q.row;
+  conns = put_in (conns i) c q.row q.beside;
   stays = put_or (stays i) c q.stay;
   kept = (ap (λ (m : HeldMessages). put_list m c q.kept) kept ∙ list_twice s.kept c ks q.kept) i;
   fetches = (ap (λ (m : HeldMessages). put_list m c q.fetches) fetches ∙ list_twice s.fetches c fs q.fetches) i;
@@ -138,6 +138,7 @@ unasked s c = record s { kept = pending_settled s.kept c Ask 0 }
 pub unasked-sound : (s : NodeState) (c : ℕ) → IsNodeSound s → IsNodeSound (unasked s c)
 unasked-sound s c sound = record {
   stays = sound.stays;
+  remains = sound.remains;
   kept = subst NoneEmpty (sym (settled_is s.kept c Ask 0 (sound.kept c))) (empty-put s.kept c (without Ask 0 (held s.kept c)) sound.kept);
   fetches = sound.fetches;
 }
@@ -188,6 +189,7 @@ unfetched s c r = record s { fetches = pending_settled s.fetches c Fetch r }
 pub unfetched-sound : (s : NodeState) (c r : ℕ) → IsNodeSound s → IsNodeSound (unfetched s c r)
 unfetched-sound s c r sound = record {
   stays = sound.stays;
+  remains = sound.remains;
   kept = sound.kept;
   fetches = subst NoneEmpty (sym (settled_is s.fetches c Fetch r (sound.fetches c))) (empty-put s.fetches c (without Fetch r (held s.fetches c)) sound.fetches);
 }

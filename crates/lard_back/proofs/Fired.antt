@@ -54,8 +54,8 @@ spoken-is env b s before e turn rest sound left is fits =
 -- ---- the rule
 
 -- the connection is here in the epoch of its row, where it is here at all
-here-at : (s : NodeState) (c : ℕ) → here (node_epoch_at s c) (node_part s c) ≡ both_of (back_endpoint (get s.conns c)) (get s.stays c)
-here-at s c = ap (λ (o : Option ControlBlock). both_of o (get s.stays c)) (go (get s.conns c)) where
+here-at : (s : NodeState) (c : ℕ) → here (node_epoch_at s c) (node_part s c) ≡ both_of (back_endpoint (get s.conns.rows c)) (get s.stays c)
+here-at s c = ap (λ (o : Option ControlBlock). both_of o (get s.stays c)) (go (get s.conns.rows c)) where
   go : (o : Option BackRow) → staying (elim o [ None ↦ 0 | Some row ↦ row.epoch.0 ]) o ≡ back_endpoint o
   go None = refl
   go (Some row) = cond-true (row.epoch.0 == row.epoch.0) (back_held row.stage) None (eq-eqb row.epoch.0 row.epoch.0 refl)
@@ -68,7 +68,7 @@ module _ (k : NodeSetting) (s : NodeState) (at : At) (of_row : at.epoch.0 ≡ no
   abbrev Timed : NodeState → Out → Type 0
   Timed n out = (n, out) ≡ node_deed k s at.c (node_timer (node_env k s at.c (node_epoch_at s at.c)) (node_part s at.c))
 
-  found-at : (o : Option (ControlBlock × Stay)) → o ≡ here at.epoch.0 (node_part s at.c) → both_of (back_endpoint (get s.conns at.c)) (get s.stays at.c) ≡ o
+  found-at : (o : Option (ControlBlock × Stay)) → o ≡ here at.epoch.0 (node_part s at.c) → both_of (back_endpoint (get s.conns.rows at.c)) (get s.stays at.c) ≡ o
   found-at o h = sym (h ∙ ap (λ e. here e (node_part s at.c)) of_row ∙ here-at s at.c)
 
   -- its endpoint speaks, and all is put back

@@ -13,6 +13,8 @@ use Rattle.lard_handoff_back.specs.declared.row.BackConn.TheVariants as stage
 use Rattle.lard_handoff_back.specs.declared.row.BackRow.{BackRow}
 use Rattle.lard_handoff_back.specs.Back.{Backs, staying, back_with_stage}
 use Rattle.lard_handoff_back.specs.Row.{back_held}
+use Rattle.lard_handoff_back.specs.Table.{beside_in, put_in}
+use Rattle.lard_handoff_back.proofs.Putting.{beside_put, row_put_in}
 use Rattle.lard_rules.specs.declared.node.NodeState.{NodeState}
 use Rattle.lard_rules.specs.declared.node.NodeTurn.{NodeTurn}
 use Rattle.lard_rules.specs.declared.stay.Asked.{Asked}
@@ -82,19 +84,26 @@ over-back m c ks k =
 
 pub part-put : (s : NodeState) (c : ℕ) (q : NodePart) → node_part (node_put s c q) c ≡ q
 part-put s c q = λ i. record {
-  row = get_put_same s.conns c q.row i;
+  row = get_put_same s.conns.rows c q.row i;
   stay = get_put_same s.stays c q.stay i;
   kept = held_put s.kept c q.kept i;
   fetches = held_put s.fetches c q.fetches i;
+  beside = beside_put s.conns c q.row q.beside i;
 }
 
 -- ---- the end of a turn
 
-pub left-is : (k : NodeSetting) (s : NodeState) (at : At) (b : ControlBlock) (w : Work) (e : Ending) → staying at.epoch.0 (get s.conns at.c) ≡ Some b
+-- the row of a connection that was in hand, and what stands beside it
+conns-back : (s : NodeState) (at : At) (b : ControlBlock) (st : BackConn) → staying at.epoch.0 (get s.conns.rows at.c) ≡ Some b
+    → (let m = back_with_stage s.conns.rows at.c stage.Out (get s.conns.rows at.c) in record s.conns { rows = back_with_stage m at.c st (get m at.c) })
+    ≡ put_in s.conns at.c (Some (record { stage = st; epoch = record { 0 = at.epoch.0 } })) (beside_in s.conns at.c)
+conns-back s at b st h = (λ i. record s.conns { rows = row-back s.conns.rows at.c at.epoch.0 (get s.conns.rows at.c) b st h i }) ∙ row_put_in s.conns at.c (Some (record { stage = st; epoch = record { 0 = at.epoch.0 } }))
+
+pub left-is : (k : NodeSetting) (s : NodeState) (at : At) (b : ControlBlock) (w : Work) (e : Ending) → staying at.epoch.0 (get s.conns.rows at.c) ≡ Some b
     → (get s.kept at.c ≡ Some [] → ⊥) → (get s.fetches at.c ≡ Some [] → ⊥)
     → node_left (sat (node_lent s at.c) at.c e) at (work_rest w) (node_rested_in e) ≡ node_put s at.c (kept_after (node_env_of k s at) (node_part s at.c) w e)
 left-is k s at b w (ending.Here d count) h kept fetches = λ i. record s {
-  conns = row-back s.conns at.c at.epoch.0 (get s.conns at.c) b (stage.Here d) h i;
+  conns = conns-back s at b (stage.Here d) h i;
   stays = put_twice s.stays at.c None (Some (stay_after count w)) i;
   kept = kept-back (node_env_of k s at) at w.asked s.kept refl refl kept i;
   fetches = fetches-back (node_env_of k s at) at w.wants s.fetches refl refl fetches i;
@@ -108,7 +117,7 @@ left-is k s at b w (ending.Over last) h kept fetches =
     let k2 : renewed (remove (asked_in at w.asked s.kept) at.c) at.c end ≡ put_list s.kept at.c (end ∷ []) = ap (λ (m : HeldMessages). renewed (remove m at.c) at.c end) k1 ∙ over-back s.kept at.c ks end in
     let f2 : remove (wanted at w.wants s.fetches) at.c ≡ put_list s.fetches at.c [] = ap (λ (m : HeldMessages). remove m at.c) f1 ∙ list_twice s.fetches at.c (wants_kept env w.wants (held s.fetches at.c)) [] in
     (λ i. record s {
-      conns = row-back s.conns at.c at.epoch.0 (get s.conns at.c) b stage.Ended h i;
+      conns = conns-back s at b stage.Ended h i;
       stays = remove s.stays at.c;
       kept = k2 i;
       fetches = f2 i;
@@ -131,7 +140,7 @@ turn-is k s at before w (ending.Over last) turn = λ i. record (turn_by (node_en
 
 -- the endpoint is put back, and the rest follows: this is what the rules say
 pub closes-is : (k : NodeSetting) (s : NodeState) (at : At) (was : Flags) (before : List (Place × List ℕ)) (b : ControlBlock) (w : Work) (given : Ending × Turn)
-    → staying at.epoch.0 (get s.conns at.c) ≡ Some b → (get s.kept at.c ≡ Some [] → ⊥) → (get s.fetches at.c ≡ Some [] → ⊥)
+    → staying at.epoch.0 (get s.conns.rows at.c) ≡ Some b → (get s.kept at.c ≡ Some [] → ⊥) → (get s.fetches at.c ≡ Some [] → ⊥)
     → turn_closed (sat (node_lent s at.c) at.c given.0) at was before (work_rest w) (node_rested_in given.0) given.1 ≡ ends_with k s at was before w given
 closes-is k s at was before b w given h kept fetches =
     let q : NodePart = kept_after (node_env_of k s at) (node_part s at.c) w given.0 in

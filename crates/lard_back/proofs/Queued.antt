@@ -17,7 +17,7 @@ use Rattle.lard_disk.specs.Jobs.{is_for, job_at, without_job}
 use Rattle.lard_endpoint.specs.Arriving.{on_segment}
 use Rattle.lard_endpoint.specs.Control.{ControlBlock, finishing}
 use Rattle.lard_handoff_back.specs.declared.table.Adopt.{Adopt}
-use Rattle.lard_handoff_back.specs.declared.table.Adopt.TheVariants.{New, Again, Stale}
+use Rattle.lard_handoff_back.specs.declared.table.Adopt.TheVariants.{New, Again, Stale, Refuse}
 use Rattle.lard_handoff_back.specs.Back.{awaits_ack, back_endpoint, offer_answer}
 use Rattle.lard_journal.specs.declared.rec.Rec.{Rec}
 use Rattle.lard_journal.specs.declared.rec.Rec.TheVariants as rec
@@ -243,6 +243,7 @@ module _ (env : NodeEnv) (p : NodePart) where
   offered-noted parts New = rests-noted p (taken_sent env) (state_of (reads_batch env true (node_begins env parts))) (batch-noted env true (node_begins env parts) (omega arith))
   offered-noted parts Again = tt
   offered-noted parts Stale = tt
+  offered-noted parts Refuse = tt
 
   acked-noted : DeedNoted (node_acknowledged env p)
   acked-noted = cond_both (awaits_ack env.epoch p.row) (Does (record p { row = gone p.row; kept = without kind.Ended 0 p.kept }, node_saying [])) Drops DeedNoted (λ t. omega arith) (λ t. tt)

@@ -31,7 +31,7 @@ use Rattle.lard_rules.specs.declared.places.Turn.{Turn}
 -- ---- in hand
 
 abbrev pub node_lent : NodeState → ℕ → NodeState
-node_lent s c = record s { conns = back_with_stage s.conns c stage.Out (table.get s.conns c); stays = table.remove s.stays c }
+node_lent s c = record s { conns = record s.conns { rows = back_with_stage s.conns.rows c stage.Out (table.get s.conns.rows c) }; stays = table.remove s.stays c }
 
 abbrev pub lent_if : {A : Type 0} → NodeState → ℕ → Option A → NodeState
 lent_if s c None = s
@@ -52,7 +52,7 @@ stage_of (ending.Here b count) = stage.Here b
 stage_of (ending.Over last) = stage.Ended
 
 abbrev pub sat : NodeState → ℕ → Ending → NodeState
-sat s c e = record s { conns = back_with_stage s.conns c (stage_of e) (table.get s.conns c) }
+sat s c e = record s { conns = record s.conns { rows = back_with_stage s.conns.rows c (stage_of e) (table.get s.conns.rows c) } }
 
 -- ---- what the turn asks for
 

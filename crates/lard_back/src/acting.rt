@@ -191,7 +191,7 @@ fn go(
     endpoint: Endpoint,
     work: Work,
 ) -> Result<Out, NoMemory>
-    requires out { back_may_put (table.get state.old.conns at.now.c) ≡ true }
+    requires out { back_may_put (table.get state.old.conns.rows at.now.c) ≡ true }
     requires sound { IsInHandSound endpoint work }
     requires jobs { length work.jobs ≤ 8 }
     requires stream { setting.now.stream ≤ MAX_STREAM_BYTES }

@@ -66,7 +66,7 @@ fn go(
     endpoint: Endpoint,
     stay: Stay,
 ) -> Result<Out, NoMemory>
-    requires out { back_may_put (table.get state.old.conns at.now.c) ≡ true }
+    requires out { back_may_put (table.get state.old.conns.rows at.now.c) ≡ true }
     requires sound { IsStaySound endpoint stay }
     requires few { length state.old.disk < 2 ^ 31 }
     ensures gone { IfOk result (λ out. let env = (node_env_of (node_setting_seen setting.now) state.old at.now).serve in let w = work_of (after_timer endpoint) stay in

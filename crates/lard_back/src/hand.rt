@@ -57,7 +57,7 @@ pub enum Rested {
 pub fn take_out(state: &mut NodeState, c: ConnId, epoch: Epoch) -> Option<(Endpoint, Stay)>
     ensures found { result ≡ here epoch.0 (node_part state.old c) }
     ensures after { state.new ≡ lent_if state.old c result }
-    ensures out { OnSome result (back_may_put (table.get state.new.conns c) ≡ true) }
+    ensures out { OnSome result (back_may_put (table.get state.new.conns.rows c) ≡ true) }
 {
     if !is_here(state, c, epoch) {
         return None;
@@ -96,9 +96,9 @@ fn take_stay(stays: &mut Table<Stay>, c: ConnId) -> Stay
 
 /// Puts an endpoint back that was taken out, or the end of it. It takes no memory.
 pub fn put_back(conns: &mut BackTable, c: ConnId, ending: Ending) -> Rested
-    requires { back_may_put (table.get conns.old c) ≡ true }
+    requires { back_may_put (table.get conns.old.rows c) ≡ true }
     ensures rested { result ≡ node_rested_in ending }
-    ensures after { conns.new ≡ back_with_stage conns.old c (stage_of ending) (table.get conns.old c) }
+    ensures after { conns.new ≡ record conns.old { rows = back_with_stage conns.old.rows c (stage_of ending) (table.get conns.old.rows c) } }
 {
     match ending {
         Ending::Here { endpoint, count } => {

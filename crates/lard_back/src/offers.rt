@@ -1,6 +1,6 @@
 //! An Offer comes: a connection that is new to the node is adopted, and its stay begins.
 
-ghost use Rattle.std.specs.Prelude.{◌≡◌, ◌^◌, ◌<◌, ◌≤◌, length, true, IfOk, OnOk};
+ghost use Rattle.std.specs.Prelude.{◌≡◌, ◌^◌, ◌<◌, ◌≤◌, length, true, false, IfOk, OnOk};
 ghost use Rattle.std.specs.FinMap as table;
 ghost use Rattle.lard_back.specs.Bounds.{IsNodeOut};
 ghost use Rattle.lard_back.specs.Place.{IsDone, IsGone, node_env_of, node_setting_seen};
@@ -8,7 +8,8 @@ ghost use Rattle.lard_back.specs.Sound.{IsNodeSound};
 ghost use Rattle.lard_base.specs.declared.limits.TheConstants.{MAX_STREAM_BYTES};
 ghost use Rattle.lard_base.specs.Parts.{IsValidParts};
 ghost use Rattle.lard_endpoint.specs.Moving.{adopted};
-ghost use Rattle.lard_handoff_back.specs.Back.{back_may_put};
+ghost use Rattle.lard_handoff_back.specs.Back.{back_may_put, offer_answer};
+ghost use Rattle.lard_handoff_back.specs.Leaving.{after_offer};
 ghost use Rattle.lard_rules.specs.Node.{node_begins, node_offered, taken_sent};
 ghost use Rattle.lard_rules.specs.NodePlace.{node_deed, node_env, node_part};
 ghost use Rattle.lard_rules.specs.Stay.{goes_on, reads_batch};
@@ -22,7 +23,7 @@ use crate::sends::{say, taken};
 use crate::timers::{Flags, running};
 use lard_base::{EndpointParts, Items, NoMemory, Place};
 use lard_endpoint::Endpoint;
-use lard_handoff_back::Adopt;
+use lard_handoff_back::{Adopt, BackTable};
 use lard_journal::Rec;
 use lard_rules::{Ending, NodeState, Out, Stay};
 use lard_serving::nothing;
@@ -48,7 +49,7 @@ pub fn offered(
     ensures fits { IfOk result IsNodeOut }
 {
     let was = running(state, at.c);
-    match state.conns.on_offer(alloc, at.c, at.epoch, parts)? {
+    match decide(&mut state.conns, alloc, at, parts)? {
         Adopt::New => {
             let Some(endpoint) = state.conns.take(at.c, at.epoch) else {
                 unreachable!()
@@ -57,7 +58,25 @@ pub fn offered(
         }
         Adopt::Again => return Ok(say(alloc, taken(alloc, at)?)),
         Adopt::Stale => return Ok(nothing(alloc)),
+        Adopt::Refuse => unreachable!(),
     }
+}
+
+/// What an Offer is to a node that does not leave, of which the table knows then.
+#[tactic(auto, using(lard_handoff_back::proofs::Leaving::stays_answer))]
+fn decide(
+    conns: &mut BackTable,
+    alloc: Global,
+    at: &At,
+    parts: &EndpointParts,
+) -> Result<Adopt, NoMemory>
+    requires remains { conns.old.leaving ≡ false }
+    requires valid { IsValidParts parts.now }
+    ensures answer { IfOk result (λ adopt. adopt ≡ offer_answer at.now.epoch.0 (table.get conns.old.rows at.now.c)) }
+    ensures ok { OnOk result (conns.new ≡ after_offer conns.old at.now.c at.now.epoch parts.now (offer_answer at.now.epoch.0 (table.get conns.old.rows at.now.c))) }
+{
+    conns.law();
+    conns.on_offer(alloc, at.c, at.epoch, parts)
 }
 
 /// The stay of an endpoint that was just adopted of these parts begins: Taken is the first of its messages.
@@ -70,7 +89,7 @@ fn adopt(
     endpoint: Endpoint,
     parts: &EndpointParts,
 ) -> Result<Out, NoMemory>
-    requires out { back_may_put (table.get state.old.conns at.now.c) ≡ true }
+    requires out { back_may_put (table.get state.old.conns.rows at.now.c) ≡ true }
     requires adopted { endpoint ≡ adopted parts.now }
     requires valid { IsValidParts parts.now }
     requires stream { setting.now.stream ≤ MAX_STREAM_BYTES }

@@ -1,11 +1,13 @@
 //! The rules of a node over one connection.
 
-ghost use Rattle.std.specs.Prelude.{◌≡◌, ◌^◌, ◌<◌, ◌≤◌, [], length, IfOk, OnOk};
+ghost use Rattle.std.specs.Prelude.{◌≡◌, ◌^◌, ◌<◌, ◌≤◌, false, [], length, IfOk, OnOk};
+ghost use Rattle.std.specs.FinMap as table;
 ghost use Rattle.lard_back.specs.Bounds.{IsNodeOut};
 ghost use Rattle.lard_back.specs.Place.{node_setting_seen};
 ghost use Rattle.lard_back.specs.Awaiting.{awaits};
 ghost use Rattle.lard_back.specs.Sound.{IsNodeSound};
 ghost use Rattle.lard_base.specs.declared.limits.TheConstants.{MAX_SEGMENT_BYTES, MAX_STREAM_BYTES};
+ghost use Rattle.lard_handoff_back.specs.Back.{awaits_ack, back_acknowledged};
 ghost use Rattle.lard_rules.specs.Node.{here, node_acknowledged, node_content, node_forwarded, node_read, node_tagged, node_saying};
 ghost use Rattle.lard_rules.specs.NodePlace.{NodeSetting, node_deed, node_env, node_part};
 ghost use Rattle.lard_segment.specs.Segment.{decoded};
@@ -14,6 +16,7 @@ use crate::acting::{Setting, assign, bring, hear, read, tell_turn};
 use crate::hand::{At, is_here};
 use crate::timers::running;
 use lard_base::{ConnId, Items, NoMemory, NodeId, Sends, TimerKind};
+use lard_handoff_back::BackTable;
 use lard_journal::Recs;
 use lard_resend::PendingKey;
 use lard_rules::{NodeState, NodeTurn, Out};
@@ -156,7 +159,7 @@ pub fn acknowledged(state: &mut NodeState, alloc: Global, at: &At) -> Result<Out
     ensures fits { IfOk result IsNodeOut }
 {
     let was = running(state, at.c);
-    if !state.conns.on_ended_ack(at.c, at.epoch) {
+    if !is_awaited(&mut state.conns, at) {
         return Ok(nothing(alloc));
     }
     let kind = TimerKind::Ended;
@@ -166,6 +169,17 @@ pub fn acknowledged(state: &mut NodeState, alloc: Global, at: &At) -> Result<Out
         r: 0,
     });
     tell_turn(state, alloc, at, was, quiet(alloc))
+}
+
+/// Whether an EndedAck is awaited in this epoch; it is no longer.
+#[tactic(auto, using(lard_handoff_back::proofs::Leaving::stays_awaits))]
+fn is_awaited(conns: &mut BackTable, at: &At) -> bool
+    requires { conns.old.leaving ≡ false }
+    ensures value { result ≡ awaits_ack at.now.epoch.0 (table.get conns.old.rows at.now.c) }
+    ensures after { conns.new ≡ record conns.old { rows = back_acknowledged conns.old.rows at.now.c (table.get conns.old.rows at.now.c) (awaits_ack at.now.epoch.0 (table.get conns.old.rows at.now.c)) } }
+{
+    conns.law();
+    conns.on_ended_ack(at.c, at.epoch)
 }
 
 /// A turn in which nothing is noted, sent or queued.

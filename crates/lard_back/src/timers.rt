@@ -38,7 +38,7 @@ pub fn running(state: &NodeState, c: ConnId) -> Flags
 
 /// Whether some symbol of an endpoint that is here is not acknowledged.
 fn is_unsaid(conns: &BackTable, c: ConnId) -> bool
-    ensures { result ≡ is_unsaid (back_endpoint (table.get conns.now c)) }
+    ensures { result ≡ is_unsaid (back_endpoint (table.get conns.now.rows c)) }
 {
     match conns.row(c) {
         None => false,

@@ -4,7 +4,7 @@ use Rattle.lard_law_connections.proofs.PlacesFrontMessages.{came-says}
 use Rattle.lard_law_connections.proofs.BytesMessages.{offers-read}
 use Rattle.lard_law_view.specs.Prelude.{Adopt, BackRow, Conn, ControlBlock, EndpointParts, Epoch, FilesAt, Front, FrontConn, FrontRow, IsNodeEnv, IsStream, IsWord, Kept, Node, NodeDeed, NodeEnv, NodePart, Place, Rec, Said, SaysAnswers, Seen, Setting, SpellsMessage, Station, Stay, Talk, Verdict, Was, again_sent, back_endpoint, both_of, come_by, decoded_message, epoch_in, here, letter, named_records, node_content, node_does, node_fired_by, node_forwarded, node_heard_by, node_offered, node_read, node_read_by, node_tagged, node_timer, offer_answer, offered_by, parts_of, reads_first, tagged_by, taken_sent, tale_at}
 use Rattle.lard_rules.specs.Front.{message}
-use Rattle.lard_handoff_back.specs.declared.table.Adopt.TheVariants.{Again, New, Stale}
+use Rattle.lard_handoff_back.specs.declared.table.Adopt.TheVariants.{Again, New, Refuse, Stale}
 use Rattle.lard_message.specs.declared.message.Body.TheVariants as body
 use Rattle.lard_journal.specs.declared.rec.Rec.TheVariants as rec
 use Rattle.lard_law_connections.proofs.BytesClientMoves.{has-fair}
@@ -199,6 +199,7 @@ module _ (k : Setting) (small : k.stream ≤ 2 ^ 30) (x : Conn) (s : Station) (t
     offer-back : (a : Adopt) → offer_answer env.epoch p.row ≡ a → Goes heads (node_offered env p parts)
     offer-back Again f = subst (λ (a : Adopt). Goes heads (offered_by env parts p a)) (sym f) answer-goes
     offer-back Stale f = subst (λ (a : Adopt). Goes heads (offered_by env parts p a)) (sym f) (drops-goes heads quiet)
+    offer-back Refuse f = subst (λ (a : Adopt). Goes heads (offered_by env parts p a)) (sym f) (drops-goes heads quiet)
     offer-back New f = offer-new (λ h. not-decided env.epoch p.row f (subst (λ (e : ℕ). IsDecided e p.row) (sym is.epoch_is) h))
         (λ i over. over-below p.row i f over)
 

@@ -15,7 +15,7 @@ use Rattle.lard_law_connections.proofs.BytesWorking.{Right, Works, came-so, firs
 use Rattle.lard_law_connections.proofs.BytesWays.{batch-right, came-right, come_progress-on, goes-right, read_progress-on, tagged-right}
 use Rattle.lard_endpoint.proofs.Adoption.{Stands, frozen_stands}
 use Rattle.lard_handoff_back.specs.declared.row.BackConn.TheVariants as back
-use Rattle.lard_handoff_back.specs.declared.table.Adopt.TheVariants.{New, Again, Stale}
+use Rattle.lard_handoff_back.specs.declared.table.Adopt.TheVariants.{New, Again, Stale, Refuse}
 use Rattle.lard_journal.specs.declared.rec.Rec.TheVariants as rec
 use Rattle.lard_message.specs.declared.message.Body.TheVariants as body
 use Rattle.lard_history.proofs.Each.{Each, Each-append}
@@ -221,6 +221,7 @@ module _ (env : NodeEnv) (w out : Stream) (vs : List Verdict) (was_reset : Bool)
         work-turns p p (taken_sent env) (goes_on env (state_of (reads_batch env true first))) (λ q. record { again = []; first = taken_sent env; is = refl; told = inl refl; said = (inr (env.epoch, body.Taken, refl, tt), tt) }) (goes-so env w out vs talk.most (state_of (reads_batch env true first)) works right) (goes-right env (state_of (reads_batch env true first)) right)
     offers-turn Again = inr (inr (env.epoch, body.Taken, refl, tt), tt)
     offers-turn Stale = tt
+    offers-turn Refuse = tt
 
 -- ---- what is kept
 

@@ -9,7 +9,7 @@ use Rattle.lard_law_connections.proofs.KeptBatches.{AreFetches, IsCalm, Loses, a
 use Rattle.lard_law_connections.proofs.KeptStays.{Awaits, Follows, Starts, batch-state, goes-await, started-await, starts-all}
 use Rattle.lard_law_view.proofs.Parts.{put-each}
 use Rattle.lard_handoff_back.specs.declared.row.BackConn.TheVariants as back
-use Rattle.lard_handoff_back.specs.declared.table.Adopt.TheVariants.{New, Again, Stale}
+use Rattle.lard_handoff_back.specs.declared.table.Adopt.TheVariants.{New, Again, Stale, Refuse}
 use Rattle.lard_history.proofs.Each.{Each}
 use Rattle.lard_rules.proofs.NodeCases.{node-keeps, IsInItsEpoch, KeptByNode, IsHereWith, of-here, where-held, where-here}
 use Rattle.lard_rules.specs.Node.{Drops, Says, Does}
@@ -238,6 +238,7 @@ module _ (N : ℕ → Type 0) (env : NodeEnv) where
         (empty.0, subst (λ (ks : List Kept). AreFetches N env.serve.files env.serve.c env.epoch env.n ks) (sym empty.1) (record { each = tt; order = tt }), (refl, inl refl), (let none = ap (λ (ks : List Kept). length ks) empty.1 in omega (arith, none))))
     offered-by parts Again none = (tt, tt)
     offered-by parts Stale none = (tt, tt)
+    offered-by parts Refuse none = (tt, tt)
 
     pub offered-keeps : (parts : EndpointParts) → Keeps (node_offered env p parts) × DeedFollows files env.epoch 0 [] (node_offered env p parts)
     offered-keeps parts = offered-by parts (offer_answer env.epoch p.row) (new-none p.row h)

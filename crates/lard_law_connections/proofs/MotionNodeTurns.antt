@@ -17,7 +17,7 @@ use Rattle.lard_law_connections.proofs.PlacesTurns.{IsPlaced}
 use Rattle.lard_law_view.specs.View.{sending}
 use Rattle.lard_law_view.proofs.Fine.{IsItsOwn}
 use Rattle.lard_law_view.proofs.Parts.{put-same}
-use Rattle.lard_handoff_back.specs.declared.table.Adopt.TheVariants.{New, Again, Stale}
+use Rattle.lard_handoff_back.specs.declared.table.Adopt.TheVariants.{New, Again, Stale, Refuse}
 use Rattle.lard_history.proofs.Each.{Each, Each-weaker}
 use Rattle.lard_history.proofs.Seeing.{other_number, same_number}
 use Rattle.lard_journal.specs.declared.rec.Rec.TheVariants as rec
@@ -278,6 +278,7 @@ module _ (k : Setting) (x : Conn) (at_place : IsPlaced x) (known : NodesKnown x)
     by-answer New new = new-go new
     by-answer Again again = old-says (not-below ours.row refl (λ new. let no : Again ≡ New = sym again ∙ new in absurd cc)) (taken_sent env)
     by-answer Stale stale = old-drops (not-below ours.row refl (λ new. let no : Stale ≡ New = sym stale ∙ new in absurd cc))
+    by-answer Refuse refuse = old-drops (not-below ours.row refl (λ new. let no : Refuse ≡ New = sym refuse ∙ new in absurd cc))
 
     pub offered-go : Goes (node_offered env ours parts)
     offered-go = by-answer (offer_answer env.epoch ours.row) refl

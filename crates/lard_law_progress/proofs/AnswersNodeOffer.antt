@@ -142,6 +142,13 @@ module _ (k : Setting) (w : Whole) (x : Conn) (n epoch : ℕ) (env : NodeEnv) (o
       go t d given (inl new) = absurd (let bad : adopt.New ≡ adopt.Again = sym new ∙ answer-is ∙ is in cc)
       go t d given (inr (again, near)) = inl (inl (subst (Near k.files t x.c d) (sym sent-is) (taken-near k.files t x.c epoch n (may given) d near)))
 
+  -- what is expected is new, or decided
+  passed : (a : Adopt) → (adopt.New ≡ a → ⊥) → (adopt.Again ≡ a → ⊥) → offer_answer env.epoch qq.row ≡ a → Offers node.Drops
+  passed a new again is = drops-owes k w x n Front bytes was_sent (λ given st st_is d near. go d (spot_of k.files x.part st).post (met given st d near)) where
+    go : (d : ℕ) (z : Post) → IsMet x.part d n epoch z → ⊥
+    go d z (inl met_new) = new (sym met_new ∙ answer-is ∙ is)
+    go d z (inr (met_again, near)) = again (sym met_again ∙ answer-is ∙ is)
+
   pub offered-owes : Offers (node_offered env qq parts)
   offered-owes = go (offer_answer env.epoch qq.row) refl where
     go : (a : Adopt) → offer_answer env.epoch qq.row ≡ a → Offers (offered_by env parts qq a)
@@ -150,7 +157,5 @@ module _ (k : Setting) (w : Whole) (x : Conn) (n epoch : ℕ) (env : NodeEnv) (o
         let stage_is : IsWith false n env.epoch h.0.stage = h.2 ∙ ap (λ (e : ℕ). stage.Offering n (record { 0 = e })) (sym of.epoch_is) in
         absurd (new-moves k.files x.part st n env h.0 h.1 stage_is is (taken_sent env) (taking env parts) same))
     go adopt.Again is = again-owes is
-    go adopt.Stale is = drops-owes k w x n Front bytes was_sent (λ given st st_is d near. stale d (spot_of k.files x.part st).post (met given st d near) is) where
-      stale : (d : ℕ) (z : Post) → IsMet x.part d n epoch z → offer_answer env.epoch qq.row ≡ adopt.Stale → ⊥
-      stale d z (inl new) is = let bad : adopt.New ≡ adopt.Stale = sym new ∙ answer-is ∙ is in cc
-      stale d z (inr (again, near)) is = let bad : adopt.Again ≡ adopt.Stale = sym again ∙ answer-is ∙ is in cc
+    go adopt.Stale is = passed adopt.Stale (λ bad. cc) (λ bad. cc) is
+    go adopt.Refuse is = passed adopt.Refuse (λ bad. cc) (λ bad. cc) is

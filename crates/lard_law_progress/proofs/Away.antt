@@ -8,6 +8,7 @@ use Rattle.lard_bound.specs.Spots.{AtNode, number_awaited, ends_of, post_of, spo
 use Rattle.lard_bound.specs.Units.{Whole, block_left, client_left, ended_left, heard_left, is_stale, left_with, one_if_not, requests_left, seat_left, stay_left, symbols_taken, tellers}
 use Rattle.lard_client.specs.declared.phase.Phase.TheVariants as phase
 use Rattle.lard_handoff_back.specs.declared.row.BackConn.TheVariants as back
+use Rattle.lard_handoff_back.specs.Table.{Beside}
 use Rattle.lard_handoff_front.specs.declared.row.FrontConn.TheVariants as stage
 use Rattle.lard_law_progress.proofs.Ends.{IsSaid, speaks-said}
 use Rattle.lard_law_progress.proofs.Less.{Lasting}
@@ -160,22 +161,23 @@ module _ (k : Whole) (K : ℕ) (files : FilesAt) (p : Part) (st : Station) (n : 
     pub few : read_of w ≤ k.requests
 
   module _ (kept fetches : List Kept) (w : Work) (works : Works x env b s kept fetches w) where
-    abbrev q_of : ControlBlock → ℕ → NodePart
-    q_of d count = record {
+    abbrev q_of : Beside → ControlBlock → ℕ → NodePart
+    q_of beside d count = record {
       row = Some (record { stage = back.Here d; epoch = record { 0 = env.epoch } });
       stay = Some (record { served = count; batch = w.batch; asks = w.asks });
       kept = asked_kept env w.asked kept;
       fetches = wants_kept env w.wants fetches;
+      beside = beside;
     }
 
     same-una : (a y z : ℕ) → z ≤ y → y ≤ a → a - z ≤ a - y → y ≡ z
     same-una a y z up in_ e = omega arith
 
-    same-spot : (d : ControlBlock) → IsSaid w.service.block d → seat_of (with_node p n (q_of d w.service.count)) ≡ Here told n env.epoch d (staying_of (q_of d w.service.count)) → tells (q_of d w.service.count) ≡ tells (p.nodes n)
-        → d.send.una ≡ b.send.una → d.send.finished ≡ b.send.finished → Rests x env b s kept fetches w → spot_of files (with_node p n (q_of d w.service.count)) st ≡ spot_of files p st
+    same-spot : (beside : Beside) (d : ControlBlock) → IsSaid w.service.block d → seat_of (with_node p n (q_of beside d w.service.count)) ≡ Here told n env.epoch d (staying_of (q_of beside d w.service.count)) → tells (q_of beside d w.service.count) ≡ tells (p.nodes n)
+        → d.send.una ≡ b.send.una → d.send.finished ≡ b.send.finished → Rests x env b s kept fetches w → spot_of files (with_node p n (q_of beside d w.service.count)) st ≡ spot_of files p st
     unfolding spot_of
-    same-spot d said seat quiet u fin h =
-        let q = q_of d w.service.count in
+    same-spot beside d said seat quiet u fin h =
+        let q = q_of beside d w.service.count in
         let total : d.send.total ≡ b.send.total = said.ahead.total ∙ h.total in
         let waits : number_awaited d x.phase ≡ number_awaited b x.phase = awaited-same x env x.phase w.service.block d (ap awaited said.recv) ∙ h.awaits in
         let ends : ends_of x d ≡ ends_of x b = λ i. record { una = u i; symbols = 1 + total i + one_if (fin i); awaited = waits i } in
@@ -191,9 +193,9 @@ module _ (k : Whole) (K : ℕ) (files : FilesAt) (p : Part) (st : Station) (n : 
           go true is = e ∙ sym (ap (λ (y : ℕ). tells_end (p.nodes y).row) (eqb-true z n is) ∙ ap tells_end here)
           go false is = refl
 
-    stays-less : (d : ControlBlock) → IsSaid w.service.block d → w.service.over ≡ None → Fits d w → IsLess (with_node p n (q_of d w.service.count))
-    stays-less d said none fits =
-        let q = q_of d w.service.count in
+    stays-less : (beside : Beside) (d : ControlBlock) → IsSaid w.service.block d → w.service.over ≡ None → Fits d w → IsLess (with_node p n (q_of beside d w.service.count))
+    stays-less beside d said none fits =
+        let q = q_of beside d w.service.count in
         let p' = with_node p n q in
         let s' = staying_of q in
         let seat : seat_of p' ≡ Here told n env.epoch d s' = seat-put p n env.epoch told row q front with_ ∙ away-here told n env.epoch at q d refl in
@@ -223,7 +225,7 @@ module _ (k : Whole) (K : ℕ) (files : FilesAt) (p : Part) (st : Station) (n : 
               (λ (t : (b.send.finished ≡ false) × (w.service.block.send.finished ≡ true)). absurd (let bad : true ≡ false = sym (said.finished ∙ t.1) ∙ fin ∙ t.0 in cc))
               (λ (e2 : (is_some w.service.over ≡ true) ⊎ Rests x env b s kept fetches w). ⊎_elim
               (λ (t : is_some w.service.over ≡ true). absurd (let bad : true ≡ false = sym t ∙ ap (λ (o : Option ℕ). is_some o) none in cc))
-              (λ (h : Rests x env b s kept fetches w). same-spot d said seat quiet u fin h)
+              (λ (h : Rests x env b s kept fetches w). same-spot beside d said seat quiet u fin h)
               e2) e)
               works.way;
         }
@@ -239,11 +241,13 @@ module _ (k : Whole) (K : ℕ) (files : FilesAt) (p : Part) (st : Station) (n : 
           stay = Some (record { served = w.service.count; batch = w.batch; asks = w.asks });
           kept = asked_kept env w.asked ks';
           fetches = wants_kept env w.wants pp.fetches;
+          beside = pp.beside;
         }))) (sym ks) (subst (λ (fs' : List Kept). IsLess (with_node p n (record {
           row = Some (record { stage = back.Here d; epoch = record { 0 = env.epoch } });
           stay = Some (record { served = w.service.count; batch = w.batch; asks = w.asks });
           kept = asked_kept env w.asked kept;
           fetches = wants_kept env w.wants fs';
-        }))) (sym fs) (stays-less d (speaks-said env.serve.c w.service.block) none (fit d w.service.count refl))))
+          beside = pp.beside;
+        }))) (sym fs) (stays-less pp.beside d (speaks-said env.serve.c w.service.block) none (fit d w.service.count refl))))
         (λ last fit. ends-less (kept_after env pp w (ending.Over last)) refl)
         fits

@@ -8,6 +8,7 @@ use Rattle.lard_bound.specs.Spots.{post_of, spot_of}
 use Rattle.lard_bound.specs.Units.{Whole, block_left, ended_left, is_stale, left_with, one_if_not, symbols_taken, tellers, untaken}
 use Rattle.lard_client.specs.declared.phase.Phase.TheVariants as phase
 use Rattle.lard_handoff_back.specs.declared.row.BackConn.TheVariants as back
+use Rattle.lard_handoff_back.specs.Table.{Beside}
 use Rattle.lard_law_progress.proofs.Away.{IsWith, away-ended, away-here, by-ending, not-less, seat-put, stay-less, tellers-put, tellers-same, tells, tells-one}
 use Rattle.lard_law_progress.proofs.Ends.{IsSaid, speaks-said}
 use Rattle.lard_law_progress.proofs.Less.{Lasting, falls, left_by}
@@ -93,18 +94,20 @@ module _ (k : Whole) (K : ℕ) (files : FilesAt) (p : Part) (st : Station) where
       pub cheap : cost env [] [] w + 4 * count ≤ 4 * read_of w
       pub few : w.service.over ≡ None → read_of w ≤ k.requests
 
-    here-less : (w : Work) (d : ControlBlock) → Adopts w → IsSaid w.service.block d → w.service.over ≡ None → To (with_node p n (record {
+    here-less : (beside : Beside) (w : Work) (d : ControlBlock) → Adopts w → IsSaid w.service.block d → w.service.over ≡ None → To (with_node p n (record {
       row = Some (record { stage = back.Here d; epoch = record { 0 = env.epoch } });
       stay = Some (record { served = w.service.count; batch = w.batch; asks = w.asks });
       kept = asked_kept env w.asked [];
       fetches = wants_kept env w.wants [];
+      beside = beside;
     }))
-    here-less w d a said none =
+    here-less beside w d a said none =
         let q : NodePart = record {
           row = Some (record { stage = back.Here d; epoch = record { 0 = env.epoch } });
           stay = Some (record { served = w.service.count; batch = w.batch; asks = w.asks });
           kept = asked_kept env w.asked [];
           fetches = wants_kept env w.wants [];
+          beside = beside;
         } in
         let seat : seat_of (with_node p n q) ≡ Here false n env.epoch d (staying_of q) = seat-put p n env.epoch false row q front with_ ∙ away-here false n env.epoch count q d refl in
         let same : tellers (node_put_back p.nodes n q) K ≡ tellers p.nodes K = tellers-same p.nodes n q (sym quiet) K in
@@ -124,12 +127,14 @@ module _ (k : Whole) (K : ℕ) (files : FilesAt) (p : Part) (st : Station) where
           stay = Some (record { served = w.service.count; batch = w.batch; asks = w.asks });
           kept = asked_kept env w.asked ks';
           fetches = wants_kept env w.wants pp.fetches;
+          beside = pp.beside;
         }))) (sym ks) (subst (λ (fs' : List Kept). To (with_node p n (record {
           row = Some (record { stage = back.Here d; epoch = record { 0 = env.epoch } });
           stay = Some (record { served = w.service.count; batch = w.batch; asks = w.asks });
           kept = asked_kept env w.asked [];
           fetches = wants_kept env w.wants fs';
-        }))) (sym fs) (here-less w d a (speaks-said env.serve.c w.service.block) none)))
+          beside = pp.beside;
+        }))) (sym fs) (here-less pp.beside w d a (speaks-said env.serve.c w.service.block) none)))
         (λ last. over-there (kept_after env pp w (ending.Over last)) refl)
 
   -- ---- the front end hears that it was taken

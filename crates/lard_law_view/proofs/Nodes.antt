@@ -9,7 +9,7 @@ use Rattle.lard_law_view.proofs.Turned.{AreHeld, HeldBy, IsSaid, all-has, all-we
 use Rattle.lard_law_view.proofs.Works.{AreTold, IsAtWork, N, by_told, noting}
 use Rattle.lard_rules.proofs.StayKeeping.{KeptByNotes, batch-works, came-works, goes-works, tagged-works}
 use Rattle.lard_endpoint.specs.Leaving as leaving
-use Rattle.lard_handoff_back.specs.declared.table.Adopt.TheVariants.{New, Again, Stale}
+use Rattle.lard_handoff_back.specs.declared.table.Adopt.TheVariants.{New, Again, Stale, Refuse}
 use Rattle.lard_history.proofs.Each.{Each, Each-append}
 use Rattle.lard_history.proofs.Seeing.{has-before, has-behind}
 use Rattle.lard_message.specs.declared.message.Body.TheVariants as body
@@ -203,6 +203,7 @@ module _ (env : NodeEnv) (own : env.serve.place ≡ Node env.n) (number : IsConn
         (goes-works env Told told w (batch-works env Told told true (node_begins env parts) refl ((((refl, refl), tt), λ n. omega arith), tt)))
     offered_by-deed parts Again = takes
     offered_by-deed parts Stale = tt
+    offered_by-deed parts Refuse = tt
 
     pub offered-deed : (parts : EndpointParts) → IsDeed (node_offered env p parts)
     offered-deed parts = offered_by-deed parts (offer_answer env.epoch p.row)

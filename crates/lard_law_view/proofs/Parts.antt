@@ -3,6 +3,7 @@ use Rattle.std.proofs.Common.{◌≡◌, ◌≢◌, ℕ, zero, suc, ◌-◌, ◌
 use Rattle.std.specs.Prelude.{slice_get, slice_set}
 use Rattle.std.specs.FinMap as table
 use Rattle.lard_law_view.specs.Prelude.{FrontPart, FrontState, Machine, NodePart, NodeState, Station, client_put, front_part, kept_at, list_of, node_at, node_part, node_put_back, part_of, with_front, with_node, with_station}
+use Rattle.lard_handoff_back.proofs.Putting.{beside_other, beside_put}
 use Rattle.lard_history.proofs.Seeing.{by_number, other_number, same_number}
 use Rattle.lard_rules.specs.NodePlace as place
 use Rattle.lard_resend.proofs.Lists.{found_other, held_put}
@@ -24,14 +25,15 @@ module _ (nodes : ℕ → NodePart) (n : ℕ) (q : NodePart) where
 -- ---- a node's part
 
 pub node-here : (s : NodeState) (c : ℕ) (p : NodePart) → node_part (place.node_put s c p) c ≡ p
-node-here s c p = λ i. record { row = get_put_same s.conns c p.row i; stay = get_put_same s.stays c p.stay i; kept = held_put s.kept c p.kept i; fetches = held_put s.fetches c p.fetches i }
+node-here s c p = λ i. record { row = get_put_same s.conns.rows c p.row i; stay = get_put_same s.stays c p.stay i; kept = held_put s.kept c p.kept i; fetches = held_put s.fetches c p.fetches i; beside = beside_put s.conns c p.row p.beside i }
 
 pub node-elsewhere : (s : NodeState) (c q : ℕ) (p : NodePart) → q ≢ c → node_part (place.node_put s c p) q ≡ node_part s q
 node-elsewhere s c q p n = λ i. record {
-  row = get_put_other s.conns c q p.row n i;
+  row = get_put_other s.conns.rows c q p.row n i;
   stay = get_put_other s.stays c q p.stay n i;
   kept = list_of (found_other s.kept c q p.kept n i);
   fetches = list_of (found_other s.fetches c q p.fetches n i);
+  beside = beside_other s.conns c q p.row p.beside n i;
 }
 
 -- ---- the nodes

@@ -3,6 +3,7 @@ use Rattle.std.proofs.Common.{◌≡◌, ℕ, zero, suc, List, [], ◌∷◌, �
 use Rattle.std.specs.Prelude.{slice_get}
 use Rattle.std.specs.FinMap.{get-empty}
 use Rattle.std.specs.Ordering.{nat_cmp}
+use Rattle.lard_handoff_back.proofs.Putting.{beside_begun}
 use Rattle.lard_law_view.specs.Prelude.{Config, Event, HasRule, Machine, NodeState, Passes, blank_conn, conn, kept_at, letters, list_of, machine_start, machine_step, no_stays, node_at, node_part, nothing_kept, own, part_of}
 
 -- ---- runs
@@ -36,7 +37,7 @@ of-nodes P count x none some (suc i) = of-replicated x P none some count i
 
 -- a node keeps nothing at the start
 none-kept : (limit q : ℕ) → node_part (no_stays limit) q ≡ nothing_kept
-none-kept limit q = λ i. record { row = get-empty nat_cmp q i; stay = get-empty nat_cmp q i; kept = list_of (get-empty nat_cmp q i); fetches = list_of (get-empty nat_cmp q i) }
+none-kept limit q = λ i. record { row = get-empty nat_cmp q i; stay = get-empty nat_cmp q i; kept = list_of (get-empty nat_cmp q i); fetches = list_of (get-empty nat_cmp q i); beside = beside_begun q i }
 
 pub start-blank : (config : Config) (files : List (List ℕ × List ℕ)) (q : ℕ) → conn (machine_start config files) q ≡ blank_conn q
 unfolding conn part_of own letters

@@ -21,6 +21,7 @@ use Rattle.lard_rules.specs.Front as front
 use Rattle.lard_rules.specs.Front.{FrontEnv, FrontPart, ask_of, front_admitted, front_asked, front_ended, front_gets, front_taken, front_timer}
 use Rattle.lard_rules.specs.FrontPlace as front_place
 use Rattle.lard_rules.specs.FrontPlace.{front_part}
+use Rattle.lard_handoff_back.specs.Table.{nothing_beside}
 use Rattle.lard_history.specs.Journal.{request}
 use Rattle.lard_history.specs.Own.{Has, Letter, Seen, Row, Came, letters, named_in, net_of, own, whose}
 use Rattle.lard_journal.specs.declared.rec.Rec.{Rec}
@@ -68,7 +69,7 @@ pub record Part : Type 0 where
 
 -- a node that is not there keeps nothing
 abbrev pub nothing_kept : NodePart
-nothing_kept = record { row = None; stay = None; kept = []; fetches = [] }
+nothing_kept = record { row = None; stay = None; kept = []; fetches = []; beside = nothing_beside }
 
 abbrev pub kept_at : ℕ → Option NodeState → NodePart
 kept_at c None = nothing_kept

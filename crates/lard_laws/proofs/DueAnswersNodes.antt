@@ -5,7 +5,7 @@ use Rattle.std.specs.List.{AllByRecursion}
 use Rattle.lard_law_view.specs.Prelude.{Adopt, AreInOrder, Asked, BackConn, BackRow, ControlBlock, Ending, EndpointParts, FilesAt, Front, Has, Kept, Letter, Message, MsgFault, Node, NodeDeed, NodeEnv, NodePart, Place, Row, Said, Seen, SegFault, Stay, Turn, Want, Work, after_timer, again_sent, all_sent, anew, ask_kept, asked_kept, asked_sent, awaits_ack, back_endpoint, back_held, both_of, came_for, come_by, come_progress, decoded_message, ended_sent, epoch_in, fetch_kept, fetch_of, goes_on, gone, here, is_from, is_tag_awaited, is_under, kept_after, named_paths, names_epoch, node_acknowledged, node_begins, node_content, node_fired_by, node_forwarded, node_heard_by, node_offered, node_read, node_read_by, node_saying, node_tagged, node_timer, offer_answer, offered_by, on_segment, read_progress, reads_batch, sent_of, serving, serving_ready_of, serving_settled, spoken, state_of, stay_after, staying, tagged, tagged_by, taken_sent, timed, turn_by, wants_kept, wants_sent, with_work, without, work_of}
 use Rattle.lard_base.specs.declared.place.TimerKind.TheVariants as kind
 use Rattle.lard_handoff_back.specs.declared.row.BackConn.TheVariants as back
-use Rattle.lard_handoff_back.specs.declared.table.Adopt.TheVariants.{New, Again, Stale}
+use Rattle.lard_handoff_back.specs.declared.table.Adopt.TheVariants.{New, Again, Stale, Refuse}
 use Rattle.lard_history.proofs.Each.{Each}
 use Rattle.lard_history.proofs.Seeing.{has-before, has-behind}
 use Rattle.lard_journal.specs.declared.rec.Rec.TheVariants as rec
@@ -202,6 +202,7 @@ module _ (env : NodeEnv) (seen ss : List Seen) where
           (subst (AllByRecursion (FetchKeptIsOut now n c e)) (sym none.1) tt) g.0 g.1 said
       go Again is g said = calm-part files seen ss n c p calm outs
       go Stale is g said = calm-part files seen ss n c p calm outs
+      go Refuse is g said = calm-part files seen ss n c p calm outs
 
     pub acknowledged-out : Calm → Out (part_behind p (node_acknowledged env p))
     acknowledged-out calm =

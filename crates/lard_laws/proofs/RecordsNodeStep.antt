@@ -185,6 +185,6 @@ module _ (k : NodeSetting) (n-is : IsNumber k.n) (small : k.stream ≤ 2 ^ 30) (
 
     pub step-fits : (i : BackIn) → InputFits i → StepFits (node_step k s i)
     step-fits (input.Message from bytes) f = gets-fits bytes from (decoded_message bytes) f.0 f.1 refl
-    step-fits (input.Timer c) f = rule-fits s h short c (node_epoch_at s c) f (early-at (table.get s.conns c) (h.each c).early) Fires
+    step-fits (input.Timer c) f = rule-fits s h short c (node_epoch_at s c) f (early-at (table.get s.conns.rows c) (h.each c).early) Fires
         (λ row found. sym (ap (λ (o : Option BackRow). elim o [ None ↦ 0 | Some row ↦ row.epoch.0 ]) found)) tt
     step-fits (input.Disk j) f = disk-fits j (job_at s.disk j) (job-fits j)

@@ -23,6 +23,7 @@ use Rattle.lard_laws.proofs.RecordsNodeStep as node
 use Rattle.lard_laws.proofs.RecordsNodeStep.{PlaceKeeps}
 use Rattle.lard_laws.proofs.RecordsSizes.{IsSized, SizeFits, aborts-sized, fires-sized, gets-sized, holds-sized, injects-sized, opens-sized, shuts-sized, takes-sized, writes-sized}
 use Rattle.lard_laws.proofs.RecordsWorks.{got}
+use Rattle.lard_handoff_back.proofs.Putting.{beside_begun}
 use Rattle.lard_law_view.proofs.After.{IsAfter, step-after}
 use Rattle.lard_law_view.proofs.Carried.{reached-viewed}
 use Rattle.lard_law_view.proofs.Runs.{passes-more, start-blank}
@@ -249,7 +250,7 @@ module _ (config : Config) (files : List (List ℕ × List ℕ)) (small : config
     go (Some y) h = let less = h.1 in (h.0, omega (arith, less))
 
   none-kept : (limit c : ℕ) → node_part (no_stays limit) c ≡ nothing_kept
-  none-kept limit c = λ i. record { row = get-empty nat_cmp c i; stay = get-empty nat_cmp c i; kept = list_of (get-empty nat_cmp c i); fetches = list_of (get-empty nat_cmp c i) }
+  none-kept limit c = λ i. record { row = get-empty nat_cmp c i; stay = get-empty nat_cmp c i; kept = list_of (get-empty nat_cmp c i); fetches = list_of (get-empty nat_cmp c i); beside = beside_begun c i }
 
   blank-node : (n most : ℕ) → NodeKeeps n most nothing_kept
   blank-node n most = record { early = tt; here = tt; kept = tt; few = omega arith; fetches = tt; few_fetches = omega arith }

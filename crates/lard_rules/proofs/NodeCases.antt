@@ -13,7 +13,7 @@ use Rattle.lard_handoff_back.specs.declared.row.BackConn.{BackConn}
 use Rattle.lard_handoff_back.specs.declared.row.BackConn.TheVariants as stage
 use Rattle.lard_handoff_back.specs.declared.row.BackRow.{BackRow}
 use Rattle.lard_handoff_back.specs.declared.table.Adopt.{Adopt}
-use Rattle.lard_handoff_back.specs.declared.table.Adopt.TheVariants.{New, Again, Stale}
+use Rattle.lard_handoff_back.specs.declared.table.Adopt.TheVariants.{New, Again, Stale, Refuse}
 use Rattle.lard_handoff_back.specs.Back.{awaits_ack, back_endpoint, offer_answer, staying}
 use Rattle.lard_handoff_back.specs.Row.{back_held}
 use Rattle.lard_lateral.specs.Lateral.{is_from}
@@ -104,6 +104,7 @@ module _ (env : NodeEnv) (p : NodePart) (M : NodeGets → Type 0) (D : NodeDeed 
   offer-keeps parts m New is = kept.begins parts m is
   offer-keeps parts m Again is = kept.takes_again parts m is
   offer-keeps parts m Stale is = kept.drops
+  offer-keeps parts m Refuse is = kept.drops
 
   heard-keeps : (given : Result Said SegFault) → M (Forwarded given) → D (node_heard_by env p given (here env.epoch p))
   heard-keeps (Err fault) m = kept.drops

@@ -14,8 +14,9 @@ use Rattle.lard_endpoint.specs.Moving.{adopted}
 use Rattle.lard_handoff_back.specs.declared.row.BackConn.TheVariants as stage
 use Rattle.lard_handoff_back.specs.declared.row.BackRow.{BackRow}
 use Rattle.lard_handoff_back.specs.declared.table.Adopt.{Adopt}
-use Rattle.lard_handoff_back.specs.declared.table.Adopt.TheVariants.{New, Again, Stale}
+use Rattle.lard_handoff_back.specs.declared.table.Adopt.TheVariants.{New, Again, Stale, Refuse}
 use Rattle.lard_handoff_back.specs.Back.{awaits_ack, back_endpoint, offer_answer, staying}
+use Rattle.lard_handoff_back.specs.Table.{Beside}
 use Rattle.lard_journal.specs.declared.rec.Rec.{Rec}
 use Rattle.lard_journal.specs.declared.rec.Rec.TheVariants as rec
 use Rattle.lard_lateral.specs.Lateral.{fetch_kept, is_from}
@@ -47,6 +48,7 @@ pub record NodePart : Type 0 where
   pub stay : Option Stay
   pub kept : List Kept  -- its Ask or its Ended, where one awaits its answer
   pub fetches : List Kept  -- those whose contents are awaited, by the numbers of their requests
+  pub beside : Beside  -- what the node decided of it since it leaves
 
 -- What a rule comes to: it drops what came, or answers it and keeps what it kept, or the node does this and keeps that.
 pub data NodeDeed : Type 0 where
@@ -113,12 +115,14 @@ kept_after env p w (Here b count) = record {
   stay = Some (stay_after count w);
   kept = asked_kept env w.asked p.kept;
   fetches = wants_kept env w.wants p.fetches;
+  beside = p.beside;
 }
 kept_after env p w (Over last) = record {
   row = Some (row_of env (Over last));
   stay = None;
   kept = ended_kept env.serve.c env.epoch last (reset_count w.service.over) ∷ [];
   fetches = [];
+  beside = p.beside;
 }
 
 abbrev pub gave_by : NodeEnv → Ending → List Rec
@@ -227,6 +231,7 @@ abbrev pub offered_by : NodeEnv → EndpointParts → NodePart → Adopt → Nod
 offered_by env parts p New = with_work env p (taken_sent env) (goes_on env (state_of (reads_batch env true (node_begins env parts))))
 offered_by env parts p Again = Says (taken_sent env)
 offered_by env parts p Stale = Drops
+offered_by env parts p Refuse = Drops
 
 abbrev pub node_offered : NodeEnv → NodePart → EndpointParts → NodeDeed
 node_offered env p parts = offered_by env parts p (offer_answer env.epoch p.row)

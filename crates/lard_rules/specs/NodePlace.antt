@@ -9,6 +9,7 @@ use Rattle.lard_base.specs.declared.place.Place.TheVariants as place
 use Rattle.lard_cache.specs.Recency.{Recency, after_hit, after_put, has_path}
 use Rattle.lard_disk.specs.declared.disk.Job.{Job}
 use Rattle.lard_disk.specs.Jobs.{is_for, job_at, without_job}
+use Rattle.lard_handoff_back.specs.Table.{beside_in, put_in, table_begun}
 use Rattle.lard_journal.specs.declared.rec.Rec.{Rec}
 use Rattle.lard_journal.specs.declared.rec.Rec.TheVariants as rec
 use Rattle.lard_message.specs.declared.fault.MsgFault.{MsgFault}
@@ -38,14 +39,14 @@ pub record NodeSetting : Type 0 where
 -- ---- what is kept
 
 abbrev pub node_part : NodeState → ℕ → NodePart
-node_part s c = record { row = table.get s.conns c; stay = table.get s.stays c; kept = held s.kept c; fetches = held s.fetches c }
+node_part s c = record { row = table.get s.conns.rows c; stay = table.get s.stays c; kept = held s.kept c; fetches = held s.fetches c; beside = beside_in s.conns c }
 
 abbrev pub node_put : NodeState → ℕ → NodePart → NodeState
-node_put s c p = record s { conns = put_or s.conns c p.row; stays = put_or s.stays c p.stay; kept = put_list s.kept c p.kept; fetches = put_list s.fetches c p.fetches }
+node_put s c p = record s { conns = put_in s.conns c p.row p.beside; stays = put_or s.stays c p.stay; kept = put_list s.kept c p.kept; fetches = put_list s.fetches c p.fetches }
 
 -- no connection was offered, no path is cached, and no job is queued
 abbrev pub no_stays : ℕ → NodeState
-no_stays limit = record { conns = table.empty; stays = table.empty; kept = table.empty; fetches = table.empty; cache = record { entries = []; limit = limit }; disk = [] }
+no_stays limit = record { conns = table_begun; stays = table.empty; kept = table.empty; fetches = table.empty; cache = record { entries = []; limit = limit }; disk = [] }
 
 abbrev pub node_env : NodeSetting → NodeState → ℕ → ℕ → NodeEnv
 node_env k s c epoch = record {
@@ -154,7 +155,7 @@ disk_step k s j (Some job) = with_first (rec.Read k.n job.origin job.c job.r job
 
 -- the epoch of the connection's stay, if it is here or its end is not acknowledged
 abbrev pub node_epoch_at : NodeState → ℕ → ℕ
-node_epoch_at s c = elim (table.get s.conns c) [ None ↦ 0 | Some row ↦ row.epoch.0 ]
+node_epoch_at s c = elim (table.get s.conns.rows c) [ None ↦ 0 | Some row ↦ row.epoch.0 ]
 
 abbrev pub node_step : NodeSetting → NodeState → BackIn → NodeState × Out
 node_step k s (input.Message from bytes) = node_gets k s from (decoded_message bytes)

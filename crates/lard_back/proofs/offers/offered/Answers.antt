@@ -9,14 +9,14 @@ pub unreachable-requires : goal.unreachable-requires
 unreachable-requires c =
     let at = c.args.at.now in
     let none : None ≡ Some (adopted c.args.parts.now) =
-    sym c.in_default.is ∙ c.take.ensures.found ∙ found-new c.args.state.now.conns at.c at.epoch c.args.parts.now c.on_offer.new.self c.in_ok-on_offer.ensures.ok (sym c.in-New.is ∙ c.in_ok-on_offer.ensures.answer) in
+    sym c.in_default.is ∙ c.take.ensures.found ∙ found-new c.args.state.now.conns at.c at.epoch c.args.parts.now c.decide.new.conns c.in_ok-decide.ensures.ok (sym c.in-New.is ∙ c.in_ok-decide.ensures.answer) in
     absurd cc
 
 pub adopt-requires-clause-adopted : goal.adopt-requires-clause-adopted
 adopt-requires-clause-adopted c =
     let at = c.args.at.now in
     let same : Some c.in-Some.endpoint ≡ Some (adopted c.args.parts.now) =
-    c.in-Some.ensures.found ∙ found-new c.args.state.now.conns at.c at.epoch c.args.parts.now c.on_offer.new.self c.in_ok-on_offer.ensures.ok (sym c.in-New.is ∙ c.in_ok-on_offer.ensures.answer) in
+    c.in-Some.ensures.found ∙ found-new c.args.state.now.conns at.c at.epoch c.args.parts.now c.decide.new.conns c.in_ok-decide.ensures.ok (sym c.in-New.is ∙ c.in_ok-decide.ensures.answer) in
     cc
 
 pub returns-in-New-clause-ok : goal.returns-in-New-clause-ok
@@ -24,8 +24,8 @@ returns-in-New-clause-ok c =
     let s = c.args.state.now in
     let k = node_setting_seen c.args.setting.now in
     let at = c.args.at.now in
-    let new = sym c.in-New.is ∙ c.in_ok-on_offer.ensures.answer in
-    let lends = lent-new k s at c.args.parts.now c.in_ok-on_offer.ensures.ok (λ i. record s { conns = c.in-Some.ensures.after i }) new c.requires.sound in
+    let new = sym c.in-New.is ∙ c.in_ok-decide.ensures.answer in
+    let lends = lent-new k s at c.args.parts.now c.in_ok-decide.ensures.ok (λ i. record s { conns = c.in-Some.ensures.after i }) new c.requires.sound in
     new-by k s at c.args.parts.now c.adopt.new.state c.running-was.result lends new c.requires.sound c.adopt.result c.running-was.ensures c.requires.node c.adopt.ensures.gone
 
 pub returns-in-New-clause-sound : goal.returns-in-New-clause-sound
@@ -33,6 +33,6 @@ returns-in-New-clause-sound c =
     let s = c.args.state.now in
     let k = node_setting_seen c.args.setting.now in
     let at = c.args.at.now in
-    let new = sym c.in-New.is ∙ c.in_ok-on_offer.ensures.answer in
-    let lends = lent-new k s at c.args.parts.now c.in_ok-on_offer.ensures.ok (λ i. record s { conns = c.in-Some.ensures.after i }) new c.requires.sound in
+    let new = sym c.in-New.is ∙ c.in_ok-decide.ensures.answer in
+    let lends = lent-new k s at c.args.parts.now c.in_ok-decide.ensures.ok (λ i. record s { conns = c.in-Some.ensures.after i }) new c.requires.sound in
     new-sound k s at c.args.parts.now c.adopt.new.state c.running-was.result lends new c.requires.sound c.adopt.result c.adopt.ensures.gone
