@@ -1,6 +1,6 @@
 -- A law of one connection is a law of each connection in every state that events lead to.
-use Rattle.std.proofs.Common.{◌≡◌, ℕ, List, [], ◌∷◌, ◌++◌, Some, None, Ok, refl, sym, ap, ◌∙◌, subst, inl, inr, ⊎_elim}
-use Rattle.lard_law_view.specs.Prelude.{AreNumbered, Carries, Config, Conn, Event, GoesBy, HasRule, IsConnNumber, IsConnSound, IsReached, IsViewed, IsViewedAlways, Machine, MayRestOn, Move, NodeState, Rules, Setting, StepsMove, blank_conn, conn, file_at, grown, machine_start, machine_step, no_stays, setting, setting_of}
+use Rattle.std.proofs.Common.{◌≡◌, ℕ, List, [], ◌∷◌, ◌++◌, Some, None, Ok, refl, sym, ap, ◌∙◌, subst, inl, inr, ⊎_elim, Bool, false}
+use Rattle.lard_law_view.specs.Prelude.{AreNumbered, Carries, Config, Conn, Event, GoesBy, HasRule, IsConnNumber, IsConnSound, IsReached, IsViewed, IsViewedAlways, Machine, MayRestOn, Move, NodeState, Rules, Setting, StepsMove, blank_conn, conn, file_at, grown, leaving_of, machine_start, machine_step, no_stays, setting, setting_of, with_leaving}
 use Rattle.lard_law_view.proofs.After.{IsAfter, step-after}
 use Rattle.lard_law_view.proofs.Fine.{IsFine, fine}
 use Rattle.lard_law_view.proofs.Runs.{length-replicated, of-nodes, passes-keep, passes-more, start-blank}
@@ -60,8 +60,12 @@ module _ (config : Config) (files : List (List ℕ × List ℕ)) where
     pub config_is : m.config ≡ config
     pub files_are : m.files ≡ files
 
-  pub on-setting : (m : Machine) → IsOn m → setting config files ≡ setting_of m
-  on-setting m on = λ i. record { files = file_at (sym on.files_are i); stream = (sym on.config_is i).stream; nodes = (sym on.config_is i).nodes }
+  pub on-setting : (m : Machine) → IsOn m → with_leaving (setting config files) (leaving_of m) ≡ setting_of m
+  on-setting m on = λ i. record { files = file_at (sym on.files_are i); stream = (sym on.config_is i).stream; nodes = (sym on.config_is i).nodes; leaving = leaving_of m }
+
+  -- what is so of each rule whichever nodes leave, is so of each rule of the machine
+  pub on-rules : (P : Conn → Move → Type 0) → ((l : ℕ → Bool) → Rules (with_leaving (setting config files) l) P) → (m : Machine) → IsOn m → Rules (setting_of m) P
+  on-rules P R m on = subst (λ (s : Setting). Rules s P) (on-setting m on) (R (leaving_of m))
 
   on-more : (m n : Machine) (e : Event) → IsOn m → HasRule e → machine_step m e ≡ Ok n → IsOn n
   on-more m n e on rule is = let after : IsAfter m e n = step-after m on.view e n rule is in record {
@@ -81,10 +85,10 @@ module _ (config : Config) (files : List (List ℕ × List ℕ)) where
       (λ k n e h rule is. (on-more k n e h.0 rule is, step k n e h.0 h.1 rule is))
       r.0 (machine_start config files) m r.1 (on-start, begins)).1
 
-  -- each connection goes by a rule of the settings
-  pub goes-on : (P : Conn → Move → Type 0) → Rules (setting config files) P → (m n : Machine) (e : Event) → IsOn m → HasRule e → machine_step m e ≡ Ok n
+  -- each connection goes by a rule
+  pub goes-on : (P : Conn → Move → Type 0) → ((l : ℕ → Bool) → Rules (with_leaving (setting config files) l) P) → (m n : Machine) (e : Event) → IsOn m → HasRule e → machine_step m e ≡ Ok n
       → (q : ℕ) → GoesBy (λ x v. IsConnNumber x.c × P x v) (conn m q) (conn n q)
-  goes-on P R m n e on rule is q = step_moves m n e P on.view (subst (λ (s : Setting). Rules s P) (on-setting m on) R) rule is q
+  goes-on P R m n e on rule is q = step_moves m n e P on.view (on-rules P R m on) rule is q
 
 -- what holds where a connection moves
 pub may-move : (Given : Conn → Type 0) (x : Conn) → IsConnNumber x.c → IsConnSound x → Given x → MayRestOn Given x
@@ -93,9 +97,9 @@ may-move Given x number sound given = record { number = number; sound = sound; g
 pub carried : Carries
 unfolding conn
 carried config files Given Inv law given m r = carried-keep config files (λ k. (q : ℕ) → Inv (conn k q))
-    (λ q. subst Inv (sym (start-blank config files q)) (law.begins q))
+    (λ q. subst Inv (sym (start-blank config files q)) ((law (λ n. false)).begins q))
     (λ k n e on h rule is q.
     let P : Conn → Move → Type 0 = λ x v. MayRestOn Given x → Inv x → Inv (grown x v) in
     gone Inv (λ x v. IsConnNumber x.c × P x v) (conn k q) (conn n q) (h q) (λ v does. does.1 (may-move Given (conn k q) does.0 (on.view.sound q) (given k on.reached q)) (h q))
-    (goes-on config files P law.moves k n e on rule is q))
+    (goes-on config files P (λ l. (law l).moves) k n e on rule is q))
     m r

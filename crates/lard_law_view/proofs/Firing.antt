@@ -4,7 +4,7 @@ use Rattle.std.proofs.lemmas.Bool.{cond_both}
 use Rattle.std.specs.Prelude.{slice_get}
 use Rattle.std.specs.FinMap as table
 use Rattle.std.specs.List.{AllByRecursion}
-use Rattle.lard_law_view.specs.Prelude.{AreNumbered, Client, Conn, Event, Front, FrontEnv, FrontPart, IsConnNumber, IsNodeEnv, IsViewed, Job, Machine, Move, Node, NodeEnv, NodePart, NodeState, Out, Packet, Rec, Rules, Station, ToCluster, aside, completed, conn, content_sent, decoded, disk_step, epoch_in, event_seen, front_acts, front_env, front_gets, front_part, front_setting, front_timer, is_no_job, job_at, node_at, node_deed, node_does, node_env, node_epoch_at, node_gave, node_part, node_read, node_saying, node_setting, node_step, node_timer, packet_at, packet_seen, part_of, reads_first, sent_of, setting_of, with_first, without_job}
+use Rattle.lard_law_view.specs.Prelude.{AreNumbered, Client, Conn, Event, Front, FrontEnv, FrontPart, IsConnNumber, IsNodeEnv, IsViewed, Job, Machine, Move, Node, NodeEnv, NodePart, NodeState, Out, Packet, Rec, Rules, Station, ToCluster, aside, completed, conn, content_sent, decoded, disk_step, epoch_in, event_seen, front_acts, front_env, front_gets, front_part, front_setting, front_timer, is_no_job, job_at, leaves_at, node_at, node_deed, node_does, node_env, node_epoch_at, node_gave, node_part, node_read, node_saying, node_setting, node_step, node_timer, packet_at, packet_seen, part_of, reads_first, sent_of, setting_of, with_first, without_job}
 use Rattle.lard_base.specs.declared.event.Event.TheVariants as event
 use Rattle.lard_law_view.proofs.FrontActs.{front-acts}
 use Rattle.lard_law_view.proofs.Fronts as fronts
@@ -100,7 +100,7 @@ module _ (m : Machine) (view : IsViewed m) (P : Conn → Move → Type 0) (R : R
         let fetches : AreMessages c (Node n) (map sent_of (node_part s c).fetches) =
         subst (λ (p : NodePart). AreMessages c (Node n) (map sent_of p.fetches)) kept-is (sent-messages (conn m c) (Node n) ((part_of m c).nodes n).fetches (view.sound c).between ((view.sound c).fetches n)) in
         let is-env : IsNodeEnv (setting_of m) c n (epoch_in ((part_of m c).nodes n)) env =
-        record { place = refl; number = refl; files = refl; stream = refl; node = refl; epoch_is = ap epoch_in (sym kept-is) } in
+        record { place = refl; number = refl; files = refl; stream = refl; node = refl; epoch_is = ap epoch_in (sym kept-is); leaves = ap leaves_at (sym here) } in
         let moves : P (conn m c) (node_does (conn m c) n (event_seen e) (node_timer env ((conn m c).part.nodes n))) =
         R.untouched.node.fires (conn m c) x n env station-there is-env in
         deed-acts m P Q shapes e c (event_seen e) opened n (names m e (Node n) c refl (λ J. refl) tt) refl s here [] tt (λ j. refl) (λ rs. refl) s.cache s.disk (view.jobs n s here) (node_setting m n) (node_timer env (node_part s c)) refl
@@ -124,7 +124,7 @@ module _ (m : Machine) (view : IsViewed m) (P : Conn → Move → Type 0) (R : R
         let env : NodeEnv = node_env (node_setting m n) after job.c job.epoch.0 in
         let kept-is : (part_of m job.c).nodes n ≡ node_part s job.c = node-kept m n s job.c here in
         let moves : P (conn m job.c) (reads_first (read_of n) (node_does (conn m job.c) n [] (node_read env ((part_of m job.c).nodes n) job.r))) =
-        R.untouched.node.read (conn m job.c) n job.epoch.0 job.r env job.path (record { place = refl; number = refl; files = refl; stream = refl; node = refl; epoch_is = refl }) in
+        R.untouched.node.read (conn m job.c) n job.epoch.0 job.r env job.path (record { place = refl; number = refl; files = refl; stream = refl; node = refl; epoch_is = refl; leaves = ap leaves_at (sym here) }) in
         deed-acts m P Q shapes (event.Disk n j) job.c [] number n (completes m n j job.c) refl s here (read_of job.origin ∷ []) ((refl, refl), tt) (λ k. refl) (λ rs. refl)
         after.cache after.disk (others-numbered s.disk j (view.jobs n s here)) (node_setting m n) (node_read env (node_part s job.c) job.r) refl
         (nodes.read-deed env refl number (node_part s job.c) job.r)

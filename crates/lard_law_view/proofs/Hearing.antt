@@ -1,10 +1,10 @@
 -- A packet comes to a place, which acts on the connection that it is of, or does nothing.
-use Rattle.std.proofs.Common.{◌≡◌, ℕ, false, List, [], ◌∷◌, map, Option, Some, None, Result, Ok, Err, refl, sym, ◌∙◌, subst, arith}
+use Rattle.std.proofs.Common.{◌≡◌, ℕ, false, List, [], ◌∷◌, map, Option, Some, None, Result, Ok, Err, refl, sym, ◌∙◌, subst, arith, ap}
 use Rattle.std.proofs.lemmas.Bool.{cond_both}
 use Rattle.std.specs.FinMap as table
 use Rattle.std.specs.List.{list_any}
 use Rattle.lard_base.specs.declared.event.Event.TheVariants as event
-use Rattle.lard_law_view.specs.Prelude.{Ask, Body, Client, Conn, Event, Final, Front, FrontEnv, FrontPart, IsConnNumber, IsForFront, IsForNode, IsForOtherNode, IsFrontEnv, IsNodeEnv, IsUnheard, IsViewed, Kind, Machine, Message, Move, MsgFault, Node, NodeDeed, NodeEnv, NodePart, NodeState, NodeTurn, Out, Packet, Place, Rules, Seen, ToCluster, Was, aside, ask_of, conn, conn_of, content_sent, decoded, decoded_message, fetched, fetched_file, file_at, front_asked, front_ended, front_env, front_gave, front_part, front_setting, front_taken, front_told, has_path, is_for, kind_of, message_comes, node_acknowledged, node_at, node_content, node_deed, node_does, node_env, node_forwarded, node_gave, node_gets, node_hears, node_offered, node_part, node_saying, node_setting, node_tagged, nothing_done, packet_at, packet_seen, part_of, sent_of, setting_of}
+use Rattle.lard_law_view.specs.Prelude.{Ask, Body, Client, Conn, Event, Final, Front, FrontEnv, FrontPart, IsConnNumber, IsForFront, IsForNode, IsForOtherNode, IsFrontEnv, IsNodeEnv, IsUnheard, IsViewed, Kind, Machine, Message, Move, MsgFault, Node, NodeDeed, NodeEnv, NodePart, NodeState, NodeTurn, Out, Packet, Place, Rules, Seen, ToCluster, Was, aside, ask_of, conn, conn_of, content_sent, decoded, decoded_message, fetched, fetched_file, file_at, front_asked, front_ended, front_env, front_gave, front_part, front_setting, front_taken, front_told, has_path, is_for, kind_of, leaves_at, message_comes, node_acknowledged, node_at, node_content, node_deed, node_does, node_env, node_forwarded, node_gave, node_gets, node_hears, node_offered, node_part, node_saying, node_setting, node_tagged, nothing_done, packet_at, packet_seen, part_of, sent_of, setting_of}
 use Rattle.lard_law_view.proofs.Ended.{ended-acts, ended-leaves}
 use Rattle.lard_law_view.proofs.FrontActs.{front-acts}
 use Rattle.lard_law_view.proofs.Fronts as fronts
@@ -130,7 +130,7 @@ module _ (m : Machine) (view : IsViewed m) (P : Conn → Move → Type 0) (R : R
       its-sent = was m k c l at from (Node n) is-from is-to of
 
       is-node-env : IsNodeEnv (setting_of m) c n epoch its_env
-      is-node-env = record { place = refl; number = refl; files = refl; stream = refl; node = refl; epoch_is = refl }
+      is-node-env = record { place = refl; number = refl; files = refl; stream = refl; node = refl; epoch_is = refl; leaves = ap leaves_at (sym here) }
 
       -- by this rule
       hears : (rule : NodePart → NodeDeed) → IsNodeDeed n c (node_part s c) (rule (node_part s c)) → P (conn m c) (node_does (conn m c) n its_heads (rule ((conn m c).part.nodes n)))

@@ -13,8 +13,9 @@ use Rattle.lard_journal.specs.declared.rec.Rec.{Rec}
 use Rattle.lard_journal.specs.declared.rec.Rec.TheVariants as rec
 pub use Rattle.lard_law_view.specs.WhileUntouched.{TellsBy, WhileUntouched}
 
+-- at the beginning no node leaves
 abbrev pub setting : Config → List (List ℕ × List ℕ) → Setting
-setting config files = record { files = file_at files; stream = config.stream; nodes = config.nodes }
+setting config files = record { files = file_at files; stream = config.stream; nodes = config.nodes; leaving = λ n. false }
 
 -- it is so of each connection in every state that events lead to
 abbrev pub OfEach : Config → List (List ℕ × List ℕ) → (Conn → Type 0) → Type 0

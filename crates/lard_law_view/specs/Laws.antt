@@ -6,7 +6,7 @@ use Rattle.lard_rules.specs.declared.machine.Machine.{Machine}
 use Rattle.lard_rules.specs.Bounds.{HasRule, IsConnNumber}
 use Rattle.lard_rules.specs.Machine.{IsReached, machine_step}
 use Rattle.lard_law_view.specs.Carry.{Guarded, IsGuardedLaw, IsLaw, IsStepLaw, IsUntouchedLaw, OfEach, Untouched, setting}
-use Rattle.lard_law_view.specs.View.{Conn, GoesBy, IsViewed, Move, Rules, Setting, conn, setting_of}
+use Rattle.lard_law_view.specs.View.{Conn, GoesBy, IsViewed, Move, Rules, Setting, conn, setting_of, with_leaving}
 use Rattle.lard_history.specs.Laws.{EachMay}
 use Rattle.lard_history.specs.Own.{EachRow, Seen, net_of, own, plain, seen_on, whose}
 use Rattle.lard_history.specs.Steps.{EachStep, steps}
@@ -21,15 +21,16 @@ StepsMove = (m n : Machine) (e : Event) (P : Conn → Move → Type 0) → IsVie
 abbrev pub IsViewedAlways : Type 0
 IsViewedAlways = (config : Config) (files : List (List ℕ × List ℕ)) (m : Machine) → IsReached config files m → IsViewed m
 
--- A law of one connection is a law of each, in every state that events lead to.
+-- A law of one connection is a law of each, in every state that events lead to: it is one whichever nodes leave.
 abbrev pub Carries : Type 1
-Carries = (config : Config) (files : List (List ℕ × List ℕ)) (Given Inv : Conn → Type 0) → IsLaw (setting config files) Given Inv → OfEach config files Given → OfEach config files Inv
+Carries = (config : Config) (files : List (List ℕ × List ℕ)) (Given Inv : Conn → Type 0) → ((l : ℕ → Bool) → IsLaw (with_leaving (setting config files) l) Given Inv)
+    → OfEach config files Given → OfEach config files Inv
 
 -- What the move of each rule must hold, each step of the journal holds, once that is so where it is so of what each connection sees.
 abbrev pub CarriesSteps : Type 1
 CarriesSteps = (config : Config) (files : List (List ℕ × List ℕ)) (Given : Conn → Type 0) (must : List Rec → List Rec → Type 0) (own_must : ℕ → List Seen → List Seen → Type 0)
     → ((past s : List Rec) → ((c : ℕ) → own_must c (own c past) (seen_on c (net_of past) s)) → must past s)
-    → IsStepLaw (setting config files) Given own_must → OfEach config files Given
+    → ((l : ℕ → Bool) → IsStepLaw (with_leaving (setting config files) l) Given own_must) → OfEach config files Given
     → (m : Machine) → IsReached config files m → EachStep must [] (steps m.journal)
 
 -- What each connection's own records may say, the journal may say.
@@ -60,12 +61,12 @@ ConnectionsGoByRules = (m n : Machine) (e : Event) (test : Conn → Move → Boo
 
 -- What each rule keeps, holds of each connection in every state.
 abbrev pub LawsAreCarried : Type 0
-LawsAreCarried = (config : Config) (files : List (List ℕ × List ℕ)) (given inv : Conn → Bool) → IsLaw (setting config files) (HoldsTest given) (HoldsTest inv) → OfEach config files (HoldsTest given)
-    → OfEach config files (HoldsTest inv)
+LawsAreCarried = (config : Config) (files : List (List ℕ × List ℕ)) (given inv : Conn → Bool) → ((l : ℕ → Bool) → IsLaw (with_leaving (setting config files) l) (HoldsTest given) (HoldsTest inv))
+    → OfEach config files (HoldsTest given) → OfEach config files (HoldsTest inv)
 
 -- What the move of each rule holds, each step of the journal holds.
 abbrev pub StepLawsAreCarried : Type 0
 StepLawsAreCarried = (config : Config) (files : List (List ℕ × List ℕ)) (given : Conn → Bool) (must : List Rec → List Rec → Bool) (own_must : ℕ → List Seen → List Seen → Bool)
     → ((past s : List Rec) → ((c : ℕ) → own_must c (own c past) (seen_on c (net_of past) s) ≡ true) → must past s ≡ true)
-    → IsStepLaw (setting config files) (HoldsTest given) (λ c past s. own_must c past s ≡ true) → OfEach config files (HoldsTest given)
+    → ((l : ℕ → Bool) → IsStepLaw (with_leaving (setting config files) l) (HoldsTest given) (λ c past s. own_must c past s ≡ true)) → OfEach config files (HoldsTest given)
     → (m : Machine) → IsReached config files m → EachStep (λ past s. must past s ≡ true) [] (steps m.journal)

@@ -38,7 +38,7 @@ use Rattle.lard_rules.specs.declared.node.NodeTurn.{NodeTurn}
 use Rattle.lard_rules.specs.Node as node
 use Rattle.lard_rules.specs.Node.{NodePart, message, node_acknowledged, node_content, node_forwarded, node_offered, node_read, node_tagged, node_timer}
 use Rattle.lard_rules.specs.NodePlace as node_place
-use Rattle.lard_rules.specs.NodePlace.{content_bytes, node_part}
+use Rattle.lard_rules.specs.NodePlace.{content_bytes, leaves_at, node_part}
 use Rattle.lard_rules.specs.Stay.{NodeEnv}
 pub use Rattle.lard_law_view.specs.Sending.{sending}
 use Rattle.lard_policy.specs.declared.first.FirstChoice.{FirstChoice}
@@ -52,14 +52,23 @@ use Rattle.lard_segment.specs.Segment.{decoded}
 
 -- ---- one connection
 
--- what never changes in a run
+-- What no rule of a connection changes: in a run all of it stays but which nodes leave.
 pub record Setting : Type 0 where
   pub files : FilesAt
   pub stream : ℕ  -- the most bytes of responses on one connection
   pub nodes : ℕ  -- how many nodes the cluster has
+  pub leaving : ℕ → Bool  -- whether this node leaves
+
+-- the same where these nodes leave
+abbrev pub with_leaving : Setting → (ℕ → Bool) → Setting
+with_leaving k l = record k { leaving = l }
+
+-- whether a node of the machine leaves
+abbrev pub leaving_of : Machine → ℕ → Bool
+leaving_of m n = leaves_at (node_at m.nodes n)
 
 abbrev pub setting_of : Machine → Setting
-setting_of m = record { files = file_at m.files; stream = m.config.stream; nodes = m.config.nodes }
+setting_of m = record { files = file_at m.files; stream = m.config.stream; nodes = m.config.nodes; leaving = leaving_of m }
 
 -- What all places keep of a connection: its client's place, the front end, and each node.
 pub record Part : Type 0 where
@@ -278,6 +287,7 @@ pub record IsNodeEnv (k : Setting) (c n epoch : ℕ) (env : NodeEnv) : Type 0 wh
   pub stream : env.serve.stream ≡ k.stream
   pub node : env.n ≡ n
   pub epoch_is : env.epoch ≡ epoch
+  pub leaves : env.leaving ≡ k.leaving n
 
 -- the epoch of the connection's stay at a node, if it is here or its end is not acknowledged
 abbrev pub epoch_in : NodePart → ℕ

@@ -1,6 +1,6 @@
 -- A node's step: it looks up what it keeps of the connection, does the rule of what came, puts it back, and tells its cache and its
 -- disk what the rule did.
-use Rattle.std.specs.Prelude.{ℕ, ◌==◌, if◌then◌else◌, List, [], ◌∷◌, ◌++◌, length, Option, Some, None, Result, Ok, Err}
+use Rattle.std.specs.Prelude.{ℕ, Bool, false, ◌==◌, if◌then◌else◌, List, [], ◌∷◌, ◌++◌, length, Option, Some, None, Result, Ok, Err}
 use Rattle.std.specs.FinMap as table
 use Rattle.std.specs.List.{flat_map, fold, list_any}
 use Rattle.lard_answers.specs.Answers.{FilesAt}
@@ -48,6 +48,15 @@ node_put s c p = record s { conns = put_in s.conns c p.row p.beside; stays = put
 abbrev pub no_stays : ℕ → NodeState
 no_stays limit = record { conns = table_begun; stays = table.empty; kept = table.empty; fetches = table.empty; cache = record { entries = []; limit = limit }; disk = [] }
 
+-- a node takes nothing new, and gives back what it has
+abbrev pub leaves : NodeState → Bool
+leaves s = s.conns.leaving
+
+-- a node that is not there does not
+abbrev pub leaves_at : Option NodeState → Bool
+leaves_at None = false
+leaves_at (Some s) = leaves s
+
 abbrev pub node_env : NodeSetting → NodeState → ℕ → ℕ → NodeEnv
 node_env k s c epoch = record {
   serve = record { place = place.Node k.n; c = c; files = k.files; stream = k.stream };
@@ -55,6 +64,7 @@ node_env k s c epoch = record {
   epoch = epoch;
   cached = has_path s.cache.entries;
   queue = length s.disk;
+  leaving = leaves s;
 }
 
 -- ---- what a turn comes to in a step

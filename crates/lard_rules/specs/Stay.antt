@@ -25,6 +25,7 @@ pub record NodeEnv : Type 0 where
   pub epoch : ℕ  -- that of the stay
   pub cached : List ℕ → Bool  -- which paths its cache has; what starts in a turn changes none of it
   pub queue : ℕ  -- how many jobs its disk had before the turn
+  pub leaving : Bool  -- it takes nothing new, and gives back what it has
 
 -- What is in hand: the endpoint and what was served, the requests that were read and are not served, how many Asks were sent;
 -- and of this turn the jobs that the disk is given, the contents that are to be fetched, and the Ask that is to be sent.
