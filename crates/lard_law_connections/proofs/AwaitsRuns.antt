@@ -1,6 +1,6 @@
 -- Each rule leaves what is awaited asked for, so it is in every run.
 use Rattle.std.proofs.Common.{ℕ, List, subst}
-use Rattle.lard_law_view.specs.Prelude.{ClientRules, Conn, FilesAt, FrontRules, IsLaw, IsNodeEnv, MayRestOn, Move, NodeDeed, NodeEnv, NodeRules, Rules, Seen, Setting, file_at, front_does, front_rule, grown, node_does, node_rule, setting}
+use Rattle.lard_law_view.specs.Prelude.{ClientRules, Conn, FilesAt, FrontRules, IsLaw, IsNodeEnv, MayRestOn, Move, NodeDeed, NodeEnv, NodeRules, Rules, Seen, Setting, file_at, front_does, front_rule, grown, node_does, node_rule, setting, with_leaving}
 use Rattle.lard_law_view.proofs.EachFront.{each-front}
 use Rattle.lard_law_view.proofs.EachClient.{each-client}
 use Rattle.lard_law_connections.specs.Awaits.{AwaitsWhatItAsked, NodeComes}
@@ -56,4 +56,4 @@ module _ (k : Setting) where
 
 -- In every state that events lead to.
 pub connections-await : ConnectionsAwait
-connections-await config files = carried config files Anything (AwaitsWhatItAsked (file_at files)) (awaits-law (setting config files)) (λ m r q. tt)
+connections-await config files = carried config files Anything (AwaitsWhatItAsked (file_at files)) (λ l. awaits-law (with_leaving (setting config files) l)) (λ m r q. tt)

@@ -1,6 +1,6 @@
 -- The law of bytes in every run: of each state, and of each record.
 use Rattle.std.proofs.Common.{◌≡◌, ◌≤◌, ◌^◌, ℕ, false, List, [], Some, None, refl, ap, ◌∙◌, sym, subst}
-use Rattle.lard_law_view.specs.Prelude.{Client, Config, Conn, EachMay, EachRow, FilesAt, Front, Guarded, IsGuardedLaw, IsReached, Machine, MayAccept, MayRestOn, MayTell, Move, Node, OfEach, Place, Rec, Seen, Setting, Stream, Tale, Talk, ToldTo, UntouchedRules, WhileUntouched, conn, conn_of, file_at, is_touched, own, plain, setting, tale_at, whose}
+use Rattle.lard_law_view.specs.Prelude.{Client, Config, Conn, EachMay, EachRow, FilesAt, Front, Guarded, IsGuardedLaw, IsReached, Machine, MayAccept, MayRestOn, MayTell, Move, Node, OfEach, Place, Rec, Seen, Setting, Stream, Tale, Talk, ToldTo, UntouchedRules, WhileUntouched, conn, conn_of, file_at, is_touched, own, plain, setting, tale_at, whose, with_leaving}
 use Rattle.lard_law_connections.specs.BytesAgreement.{IsTruthful}
 use Rattle.lard_law_connections.proofs.BytesLaw.{IsSeenTrue, IsTrueMove, StaysTruthful}
 use Rattle.lard_law_connections.specs.BytesRecords.{MayServeOwned}
@@ -115,7 +115,8 @@ module _ (config : Config) (files : List (List ℕ × List ℕ)) (small : config
   Holds x = Guarded (IsTruthful (file_at files)) (IsSeenTrue (file_at files)) x
 
   each-guarded : OfEach config files Holds
-  each-guarded = carried config files IsPlaced Holds (guarded-law (setting config files) IsPlaced (IsTruthful (file_at files)) (IsSeenTrue (file_at files)) (bytes-law (setting config files) small)) (each-placed config files)
+  each-guarded = carried config files IsPlaced Holds
+      (λ l. let k : Setting = with_leaving (setting config files) l in guarded-law k IsPlaced (IsTruthful (file_at files)) (IsSeenTrue (file_at files)) (bytes-law k small)) (each-placed config files)
 
   each : (m : Machine) → IsReached config files m → (q : ℕ) → EachRow (seen_true (file_at files) q) [] (conn m q).seen
   unfolding conn

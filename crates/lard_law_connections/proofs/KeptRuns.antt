@@ -1,6 +1,6 @@
 -- Each rule leaves what is kept as it must be, so it is in every run.
 use Rattle.std.proofs.Common.{◌≡◌, ℕ, List, [], ◌∷◌, Some, refl, subst}
-use Rattle.lard_law_view.specs.Prelude.{ClientRules, Config, Conn, ControlBlock, FilesAt, Front, FrontEnv, FrontRules, IsFrontEnv, IsLaw, IsNodeEnv, MayRestOn, Move, Node, NodeEnv, NodeGets, NodeRules, OfEach, Rules, Seen, Setting, SpellsMessage, Stay, Tagged, Was, file_at, front_does, front_rule, grown, here, node_does, node_rule, setting}
+use Rattle.lard_law_view.specs.Prelude.{ClientRules, Config, Conn, ControlBlock, FilesAt, Front, FrontEnv, FrontRules, IsFrontEnv, IsLaw, IsNodeEnv, MayRestOn, Move, Node, NodeEnv, NodeGets, NodeRules, OfEach, Rules, Seen, Setting, SpellsMessage, Stay, Tagged, Was, file_at, front_does, front_rule, grown, here, node_does, node_rule, setting, with_leaving}
 use Rattle.lard_law_view.proofs.EachNode.{NodeComes, each-node}
 use Rattle.lard_law_view.proofs.EachFront.{admission, each-front}
 use Rattle.lard_law_view.proofs.EachClient.{each-client}
@@ -75,7 +75,7 @@ module _ (N : ℕ → Type 0) (Given : Conn → Type 0) (names : (x : Conn) → 
 
 -- Where its Tags name such nodes, each Fetch of a connection goes to one.
 pub each-kept : (N : ℕ → Type 0) (config : Config) (files : List (List ℕ × List ℕ)) → OfEach config files (TagsName N) → OfEach config files (IsKeptByStage N (file_at files))
-each-kept N config files given = carried config files (TagsName N) (IsKeptByStage N (file_at files)) (kept-law N (TagsName N) (λ x g. g) (setting config files)) given
+each-kept N config files given = carried config files (TagsName N) (IsKeptByStage N (file_at files)) (λ l. kept-law N (TagsName N) (λ x g. g) (with_leaving (setting config files) l)) given
 
 any : (nodes : List ℕ) → Each AnyNode nodes
 any [] = tt

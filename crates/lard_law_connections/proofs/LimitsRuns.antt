@@ -1,6 +1,6 @@
 -- The reset law in every run.
 use Rattle.std.proofs.Common.{◌≤◌, ◌^◌, ℕ, List, refl, arith}
-use Rattle.lard_law_view.specs.Prelude.{ClientRules, Completed, Config, Conn, FrontRules, IsLaw, MayReset, MayRestOn, Move, Node, NodeGets, NodeRules, OfEach, Rules, Setting, client_begins, client_injects, client_opens, client_rule, conn, grown, inject_seen, nothing_said, packet_seen, setting, stands}
+use Rattle.lard_law_view.specs.Prelude.{ClientRules, Completed, Config, Conn, FrontRules, IsLaw, MayReset, MayRestOn, Move, Node, NodeGets, NodeRules, OfEach, Rules, Setting, client_begins, client_injects, client_opens, client_rule, conn, grown, inject_seen, nothing_said, packet_seen, setting, stands, with_leaving}
 use Rattle.lard_law_view.proofs.EachFront.{admission, each-front, of-front}
 use Rattle.lard_history.proofs.Each.{Each}
 use Rattle.lard_law_view.proofs.EachClient.{client_seen, each-client, of-client}
@@ -79,7 +79,7 @@ module _ (k : Setting) (most : k.stream ≤ 2 ^ 30) where
   }
 
 each-limited : (config : Config) (files : List (List ℕ × List ℕ)) → config.stream ≤ 2 ^ 30 → OfEach config files (IsLimited config.stream)
-each-limited config files most = carried config files IsPlaced (IsLimited config.stream) (limits-law (setting config files) most) (each-placed config files)
+each-limited config files most = carried config files IsPlaced (IsLimited config.stream) (λ l. limits-law (with_leaving (setting config files) l) most) (each-placed config files)
 
 pub connections-counted : ConnectionsAreCounted
 connections-counted config files most m r q = (each-limited config files most m r q).counted

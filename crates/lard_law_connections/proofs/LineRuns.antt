@@ -3,7 +3,7 @@ use Rattle.std.proofs.Common.{◌≡◌, ℕ, ◌<◌, ◌≤◌, ◌||◌, nat_
 use Rattle.std.proofs.lemmas.List.{length-map}
 use Rattle.std.specs.List.{fold, list_any}
 use Rattle.lard_base.proofs.Usable.{usable}
-use Rattle.lard_law_view.specs.Prelude.{Client, Config, DispatchStanding, EachMay, Event, Front, FrontConn, FrontPart, FrontRest, FrontRow, HasRule, IsReached, IsRowSound, IsStageSound, Kept, Machine, Node, Packet, Place, Rec, Rules, Setting, Tale, ToCluster, Waiting, config_check, conn, decoded, dispatch_standing, front_part, is_waiting, line_waits, machine_step, own, packet_at, part_of, plain, setting, whose}
+use Rattle.lard_law_view.specs.Prelude.{Client, Config, DispatchStanding, EachMay, Event, Front, FrontConn, FrontPart, FrontRest, FrontRow, HasRule, IsReached, IsRowSound, IsStageSound, Kept, Machine, Node, Packet, Place, Rec, Tale, ToCluster, Waiting, config_check, conn, decoded, dispatch_standing, front_part, is_waiting, line_waits, machine_step, own, packet_at, part_of, plain, setting, whose, with_leaving}
 use Rattle.lard_law_connections.proofs.LineFronts.{RowStands, StageStands}
 use Rattle.lard_law_connections.proofs.LineJoining.{IsLinedThere, JoinsFree, MayJoin, joining-law}
 use Rattle.lard_law_connections.proofs.LineLaw.{IsLined, line-law}
@@ -27,7 +27,7 @@ use Rattle.lard_law_connections.specs.PolicyLaws.{AdmitsFirst, PassesOn}
 use Rattle.lard_counts.specs.Ledger.{is_in_ledger, ledger}
 use Rattle.lard_law_connections.specs.PolicyLine.{IsSublist, waiting, waiting_step}
 use Rattle.lard_law_view.proofs.After.{IsAfter, step-after}
-use Rattle.lard_law_view.proofs.Carried.{IsOn, carried, carried-keep, on-setting}
+use Rattle.lard_law_view.proofs.Carried.{IsOn, carried, carried-keep, on-rules}
 use Rattle.lard_law_view.proofs.InSteps.{carried-ends, carried-records}
 use Rattle.lard_handoff_front.specs.declared.row.FrontConn.TheVariants as stage
 use Rattle.lard_history.proofs.Each.{Each, Each-weaker}
@@ -83,7 +83,7 @@ row-waits rest kept at s (Some row) h k = stage-waits row.epoch.0 rest kept at s
 
 module _ (config : Config) (files : List (List ℕ × List ℕ)) (checked : config_check config ≡ Ok tt) where
   pub each-lined : (m : Machine) → IsReached config files m → (q : ℕ) → IsLined (conn m q)
-  each-lined = carried config files IsPlaced IsLined (line-law (setting config files) (usable config checked).stream) (each-placed config files)
+  each-lined = carried config files IsPlaced IsLined (λ l. line-law (with_leaving (setting config files) l) (usable config checked).stream) (each-placed config files)
 
   -- how each connection stands, by what it sees of the journal
   pub stood : (m : Machine) → IsReached config files m → (q : ℕ) → RowStands (fold (stand_step q) unknown (own q m.journal)) (front_part m.front q).row
@@ -131,7 +131,7 @@ line-is-of-those-who-wait config files m checked r c =
 
 module _ (config : Config) (files : List (List ℕ × List ℕ)) (checked : config_check config ≡ Ok tt) where
   each-joins : (m : Machine) → IsReached config files m → (q : ℕ) → JoinsFree (conn m q)
-  each-joins = carried config files IsLinedThere JoinsFree (joining-law (setting config files) (usable config checked).stream) (λ m r q. (each-lined config files checked m r q, each-placed config files m r q))
+  each-joins = carried config files IsLinedThere JoinsFree (λ l. joining-law (with_leaving (setting config files) l) (usable config checked).stream) (λ m r q. (each-lined config files checked m r q, each-placed config files m r q))
 
   abbrev May : List Rec → Rec → Type 0
   May past r = MayWait (ledger config past) past r
@@ -178,7 +178,7 @@ module _ (config : Config) (files : List (List ℕ × List ℕ)) (checked : conf
   -- what each step adds is in order
   pub step-ordered-so : (m n : Machine) (e : Event) → IsOn config files m → HasRule e → machine_step m e ≡ Ok n → (rs : List Rec) × (n.journal ≡ m.journal ++ rs) × IsInOrder (is_in_ledger (ledger config m.journal)) rs
   step-ordered-so m n e on rule is = step-adds m (each-lined config files checked m on.reached) (is_in_ledger (ledger config m.journal)) (inside-is m on.reached) on.view
-      (subst (λ (s : Setting). Rules s Notes) (on-setting config files m on) (noting (setting config files) (usable config checked).stream)) n e rule is
+      (on-rules config files Notes (λ l. noting (with_leaving (setting config files) l) (usable config checked).stream) m on) n e rule is
 
 -- ---- it passes in its order
 
@@ -199,7 +199,7 @@ line-passes config files m checked r = pass-may [] m.journal (carried-keep confi
   step k n e on h rule is =
       let Kept : List Waiting = k.front.dispatch.books.line in
       let ordered = step-ordered config k (reached-counted config files checked k on.reached) n e on.view rule is in
-      let adds = step-pass k on.view (each-lined config files checked k on.reached) (subst (λ (s : Setting). Rules s Notes) (on-setting config files k on) (noting (setting config files) (usable config checked).stream)) n e rule is in
+      let adds = step-pass k on.view (each-lined config files checked k on.reached) (on-rules config files Notes (λ l. noting (with_leaving (setting config files) l) (usable config checked).stream) k on) n e rule is in
       let rows : List Rec = adds.0 in
       let agree : ordered.0 ≡ rows = cancel k.journal ordered.0 rows (sym ordered.1 ∙ adds.1) in
       let lets : Each (AdmitsHead (who Kept)) ordered.0 × LetsIn (who Kept) ordered.0 = (Each-weaker (AdmitsFirst Kept) (AdmitsHead (who Kept)) (head-so Kept) ordered.0 ordered.2, lets-so Kept ordered.0 ordered.3) in

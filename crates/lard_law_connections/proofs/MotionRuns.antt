@@ -1,6 +1,6 @@
 -- The motion law in every run.
 use Rattle.std.proofs.Common.{ℕ, List, [], refl, sym, ◌∙◌}
-use Rattle.lard_law_view.specs.Prelude.{Config, Conn, IsLaw, IsStepLaw, MayRestOn, Move, OfEach, Rules, Seen, Setting, grown, seen_in, setting}
+use Rattle.lard_law_view.specs.Prelude.{Config, Conn, IsLaw, IsStepLaw, MayRestOn, Move, OfEach, Rules, Seen, Setting, grown, seen_in, setting, with_leaving}
 use Rattle.lard_law_connections.specs.Motion.{IsMotion, MustMove}
 use Rattle.lard_law_connections.specs.MotionRuns.{ConnectionsMoveInSteps}
 use Rattle.lard_law_connections.specs.MotionStory.{Story, story}
@@ -69,10 +69,10 @@ module _ (k : Setting) where
 
 -- what is known of the way of each connection, in every state
 pub each-way : (config : Config) (files : List (List ℕ × List ℕ)) → OfEach config files Way
-each-way config files = carried config files IsPlaced Way (way-law (setting config files)) (each-placed config files)
+each-way config files = carried config files IsPlaced Way (λ l. way-law (with_leaving (setting config files) l)) (each-placed config files)
 
 pub connections-move : ConnectionsMoveInSteps
 connections-move config files m r =
     let known : OfEach config files Way = each-way config files in
-    carried-steps config files (Given (setting config files)) (MustMove config.nodes) (IsMotion config.nodes) (λ past s h. h) (motion-law (setting config files))
+    carried-steps config files (Given (setting config files)) (MustMove config.nodes) (IsMotion config.nodes) (λ past s h. h) (λ l. motion-law (with_leaving (setting config files) l))
     (λ n s q. (each-placed config files n s q, known n s q)) m r

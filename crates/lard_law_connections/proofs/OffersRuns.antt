@@ -1,6 +1,6 @@
 -- What an Offer carries in every run.
 use Rattle.std.proofs.Common.{◌≡◌, ◌≤◌, ◌^◌, ℕ, false, List, [], Some, None, ap, ◌∙◌, sym, subst}
-use Rattle.lard_law_view.specs.Prelude.{Client, Config, Conn, EachRow, FilesAt, Front, Guarded, IsGuardedLaw, IsReached, Machine, MayRestOn, Move, Node, NodeRules, OfEach, Place, Rec, Seen, Setting, Tale, Untouched, UntouchedRules, WhileUntouched, conn, file_at, grown, is_touched, node_does, nothing_said, own, packet_seen, plain, seen_in, setting, stands, tale_at, tale_of, whose}
+use Rattle.lard_law_view.specs.Prelude.{Client, Config, Conn, EachRow, FilesAt, Front, Guarded, IsGuardedLaw, IsReached, Machine, MayRestOn, Move, Node, NodeRules, OfEach, Place, Rec, Seen, Setting, Tale, Untouched, UntouchedRules, WhileUntouched, conn, file_at, grown, is_touched, node_does, nothing_said, own, packet_seen, plain, seen_in, setting, stands, tale_at, tale_of, whose, with_leaving}
 use Rattle.lard_law_connections.specs.BytesAgreement.{IsTruthful}
 use Rattle.lard_law_connections.proofs.BytesOwners.{Known, Knows, known}
 use Rattle.lard_law_connections.proofs.BytesRuns.{states-truthful}
@@ -120,7 +120,7 @@ module _ (files : FilesAt) where
 module _ (config : Config) (files : List (List ℕ × List ℕ)) (small : config.stream ≤ 2 ^ 30) where
   each-guarded : OfEach config files (Guarded AreSeen (Mine (file_at files)))
   each-guarded = carried config files (Given (setting config files) small) (Guarded AreSeen (Mine (file_at files)))
-      (guarded-law (setting config files) (Given (setting config files) small) AreSeen (Mine (file_at files)) (offers-law (setting config files) small))
+      (λ l. let k : Setting = with_leaving (setting config files) l in guarded-law k (Given k small) AreSeen (Mine (file_at files)) (offers-law k small))
       (λ m r q. (each-placed config files m r q, states-truthful config files small m r q))
 
   each : (m : Machine) → IsReached config files m → (q : ℕ) → EachRow (mine (file_at files) q) [] (conn m q).seen

@@ -1,6 +1,6 @@
 -- The law of places in every run.
 use Rattle.std.proofs.Common.{ℕ, List, [], refl}
-use Rattle.lard_law_view.specs.Prelude.{Config, Conn, EachMay, IsLaw, IsReached, Machine, MayOwn, MayRestOn, MaySend, OfEach, Setting, blank_conn, conn, grown, setting}
+use Rattle.lard_law_view.specs.Prelude.{Config, Conn, EachMay, IsLaw, IsReached, Machine, MayOwn, MayRestOn, MaySend, OfEach, Setting, blank_conn, conn, grown, setting, with_leaving}
 use Rattle.lard_law_connections.specs.PlacesLaws.{EachConnectionSits, OwnersAreLawful, SendersAreLawful}
 use Rattle.lard_law_connections.proofs.PlacesLaw.{owing}
 use Rattle.lard_law_connections.proofs.PlacesRows.{MayStand}
@@ -28,7 +28,7 @@ places-law k = record {
 }
 
 pub each-placed : (config : Config) (files : List (List ℕ × List ℕ)) → OfEach config files IsPlaced
-each-placed config files = carried config files Anything IsPlaced (places-law (setting config files)) (λ m r q. tt)
+each-placed config files = carried config files Anything IsPlaced (λ l. places-law (with_leaving (setting config files) l)) (λ m r q. tt)
 
 pub each-sits : EachConnectionSits
 each-sits config files m r q = let placed = each-placed config files m r q in (placed.sits, placed.early)

@@ -1,6 +1,6 @@
 -- The law of RST in every run.
 use Rattle.std.proofs.Common.{ℕ, List, refl}
-use Rattle.lard_law_view.specs.Prelude.{ClientRules, Completed, Config, Conn, FrontRules, IsLaw, MayRestOn, Move, Node, NodeGets, NodeRules, OfEach, Rules, Setting, client_begins, client_injects, client_opens, client_rule, conn, grown, inject_seen, nothing_said, packet_seen, setting, stands}
+use Rattle.lard_law_view.specs.Prelude.{ClientRules, Completed, Config, Conn, FrontRules, IsLaw, MayRestOn, Move, Node, NodeGets, NodeRules, OfEach, Rules, Setting, client_begins, client_injects, client_opens, client_rule, conn, grown, inject_seen, nothing_said, packet_seen, setting, stands, with_leaving}
 use Rattle.lard_law_view.proofs.EachFront.{each-front, of-front}
 use Rattle.lard_history.proofs.Each.{Each}
 use Rattle.lard_law_view.proofs.EachClient.{client_seen, each-client, of-client}
@@ -73,7 +73,7 @@ module _ (k : Setting) where
   }
 
 each-behind : (config : Config) (files : List (List ℕ × List ℕ)) → OfEach config files IsBehindResets
-each-behind config files = carried config files Anything IsBehindResets (resets-law (setting config files)) (λ m r q. tt)
+each-behind config files = carried config files Anything IsBehindResets (λ l. resets-law (with_leaving (setting config files) l)) (λ m r q. tt)
 
 pub ends-follow : EndsFollowResets
 ends-follow config files m r q = (each-behind config files m r q).ends

@@ -1,6 +1,6 @@
 -- Each rule leaves nothing to be said, so it is in every run.
 use Rattle.std.proofs.Common.{◌≡◌, ◌≤◌, ◌^◌, ℕ, List, Option, Some, Ok, None, IfSome, sym, subst}
-use Rattle.lard_law_view.specs.Prelude.{ClientBlock, ClientRules, Conn, ControlBlock, EndpointParts, Forwarded, FrontGets, FrontHears, FrontRules, IsFrontEnv, IsLaw, IsNodeEnv, IsValidParts, MayRestOn, Move, NodeEnv, NodeGets, NodeRules, Offered, Rules, Said, Seen, Setting, SpellsMessage, Station, front_does, front_rule, grown, last_words, node_does, node_rule, setting, with_station}
+use Rattle.lard_law_view.specs.Prelude.{ClientBlock, ClientRules, Conn, ControlBlock, EndpointParts, Forwarded, FrontGets, FrontHears, FrontRules, IsFrontEnv, IsLaw, IsNodeEnv, IsValidParts, MayRestOn, Move, NodeEnv, NodeGets, NodeRules, Offered, Rules, Said, Seen, Setting, SpellsMessage, Station, front_does, front_rule, grown, last_words, node_does, node_rule, setting, with_leaving, with_station}
 use Rattle.lard_law_connections.proofs.PolicyMessages.{IsTold, message-told}
 use Rattle.lard_law_connections.specs.SilenceLaws.{ConnectionsHaveSpoken}
 use Rattle.lard_law_connections.specs.SilencePlaces.{FrontHas, NodeHas}
@@ -108,4 +108,4 @@ module _ (k : Setting) (small : k.stream ≤ 2 ^ 30) where
 
 -- In every state that events lead to.
 pub connections-have-spoken : ConnectionsHaveSpoken
-connections-have-spoken config files small = carried config files Nothing AllHaveSpoken (spoken-law (setting config files) small) (λ m r q. tt)
+connections-have-spoken config files small = carried config files Nothing AllHaveSpoken (λ l. spoken-law (with_leaving (setting config files) l) small) (λ m r q. tt)

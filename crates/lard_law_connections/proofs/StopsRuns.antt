@@ -1,6 +1,6 @@
 -- Each rule leaves reading stopped for a reason, so it is in every run.
 use Rattle.std.proofs.Common.{List, subst}
-use Rattle.lard_law_view.specs.Prelude.{ClientRules, Conn, FilesAt, FrontRules, IsFrontEnv, IsLaw, MayRestOn, Move, NodeRules, Rules, Seen, Setting, file_at, front_does, front_rule, grown, node_rule, setting}
+use Rattle.lard_law_view.specs.Prelude.{ClientRules, Conn, FilesAt, FrontRules, IsFrontEnv, IsLaw, MayRestOn, Move, NodeRules, Rules, Seen, Setting, file_at, front_does, front_rule, grown, node_rule, setting, with_leaving}
 use Rattle.lard_law_view.proofs.EachFront.{admission, each-front}
 use Rattle.lard_law_view.proofs.EachClient.{each-client}
 use Rattle.lard_law_connections.specs.StopsLaws.{ConnectionsStop}
@@ -49,4 +49,4 @@ module _ (k : Setting) where
 
 -- In every state that events lead to.
 pub connections-stop : ConnectionsStop
-connections-stop config files = carried config files Anything (ReadingStops (file_at files)) (stops-law (setting config files)) (λ m r q. tt)
+connections-stop config files = carried config files Anything (ReadingStops (file_at files)) (λ l. stops-law (with_leaving (setting config files) l)) (λ m r q. tt)
