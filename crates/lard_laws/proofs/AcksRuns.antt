@@ -2,7 +2,7 @@
 use Rattle.std.proofs.Common.{◌≡◌, ◌≤◌, ◌^◌, ℕ, false, List, Some, refl, sym, ap, ◌∙◌, subst}
 use Rattle.std.proofs.Math.Bool.{or-false}
 use Rattle.lard_base.specs.declared.event.Event.TheVariants as event
-use Rattle.lard_law_view.specs.Prelude.{Conn, Front, FrontRules, IsUntouchedLaw, MayRestOn, Move, Node, NodeRules, Place, Seen, Setting, Station, Stream, TurnSaid as SaidIn, Untouched, UntouchedRules, event_seen, front_does, grown, letters_of, nothing_said, packet_seen, setting, stands, tale_at}
+use Rattle.lard_law_view.specs.Prelude.{Conn, Front, FrontRules, IsUntouchedLaw, MayRestOn, Move, Node, NodeRules, Place, Seen, Setting, Station, Stream, TurnSaid as SaidIn, Untouched, UntouchedRules, event_seen, front_does, grown, letters_of, nothing_said, packet_seen, setting, stands, tale_at, with_leaving}
 use Rattle.lard_laws.specs.Acks.{AcksWhatWasTaken, ActsWithin, Bounds, LetterActs, OpenActs, bounds_of, story_at}
 use Rattle.lard_laws.specs.AcksLaws.{ConnectionsAckWhatWasTaken}
 use Rattle.lard_laws.proofs.AcksClients.{Keeps, clients}
@@ -127,5 +127,5 @@ module _ (k : Setting) (small : k.stream ≤ 2 ^ 30) where
 pub connections-ack : ConnectionsAckWhatWasTaken
 connections-ack config files small =
     let k : Setting = setting config files in
-    carried config files (Given k small) (Untouched AcksWhatWasTaken) (untouched-law k (Given k small) AcksWhatWasTaken (acks-law k small))
+    carried config files (Given k small) (Untouched AcksWhatWasTaken) (λ l. untouched-law (with_leaving k l) (Given k small) AcksWhatWasTaken (acks-law (with_leaving k l) small))
     (λ m r q. (each-placed config files m r q, states-truthful config files small m r q))

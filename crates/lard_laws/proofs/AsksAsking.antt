@@ -1,6 +1,6 @@
 -- What nodes ask, in every run.
 use Rattle.std.proofs.Common.{◌≡◌, ℕ, List, [], ◌∷◌, ◌++◌, length, Option, Some, Ok, refl, sym, ◌∙◌, subst, inl, inr, ⊎_elim}
-use Rattle.lard_law_view.specs.Prelude.{Config, Conn, Event, HasRule, IsConnNumber, IsLaw, IsReached, Machine, MayRestOn, Move, OfEach, Rec, Rules, Setting, conn, grown, machine_start, machine_step, named_in, net_of, own, seen_on, setting}
+use Rattle.lard_law_view.specs.Prelude.{Config, Conn, Event, HasRule, IsConnNumber, IsLaw, IsReached, Machine, MayRestOn, Move, OfEach, Rec, Rules, Setting, conn, grown, machine_start, machine_step, named_in, net_of, own, seen_on, setting, with_leaving}
 use Rattle.lard_laws.specs.AsksRuns.{AsksGoOnInSteps}
 use Rattle.lard_laws.specs.AsksSent.{AsksGoOn, IsNextAsk, MustAsk, ask_by, last_ask}
 use Rattle.lard_laws.proofs.AsksQueues.{Waits, asks-seen, go-on, last-named}
@@ -40,7 +40,7 @@ module _ (k : Setting) where
 module _ (config : Config) (files : List (List ℕ × List ℕ)) where
   -- what is known at the nodes, in every state
   pub each-asks : OfEach config files PartsAsk
-  each-asks = carried config files IsPlaced PartsAsk (asks-law (setting config files)) (each-placed config files)
+  each-asks = carried config files IsPlaced PartsAsk (λ l. asks-law (with_leaving (setting config files) l)) (each-placed config files)
 
   module _ (m n : Machine) (e : Event) (on : IsOn config files m) (rule : HasRule e) (is : machine_step m e ≡ Ok n) (after : IsAfter m e n) where
     -- the Asks go on, with as many jobs as there may be
@@ -48,7 +48,7 @@ module _ (config : Config) (files : List (List ℕ × List ℕ)) where
     unfolding conn
     goes q = seen-step (λ x v. IsConnNumber x.c × All (setting config files) x v) (GoesOn q (own q m.journal)) m n after.step q after.is (λ j d. tt)
         (λ v h. (does (setting config files) (conn m q) v h.1 (record { number = h.0; sound = on.view.sound q; given = each-placed config files m on.reached q }) (each-asks m on.reached q)).0)
-        (goes-on config files (All (setting config files)) (all (setting config files)) m n e on rule is q)
+        (goes-on config files (All (setting config files)) (λ l. all (with_leaving (setting config files) l)) m n e on rule is q)
 
     abbrev reached : IsReached config files n
     reached = (on.reached.0 ++ e ∷ [], passes-more on.reached.0 (machine_start config files) m n e on.reached.1 rule is)

@@ -1,6 +1,6 @@
 -- The laws of Asks in every run.
 use Rattle.std.proofs.Common.{◌≡◌, ℕ, nat_lt, List, [], Ok, refl, sym, subst, inl, inr, ⊎_elim}
-use Rattle.lard_law_view.specs.Prelude.{Config, Conn, Event, HasRule, IsConnNumber, IsReached, Machine, Move, Rules, Seen, Tally, conn, grown, machine_start, machine_step, net_of, open_shares, own, seen_on, setting}
+use Rattle.lard_law_view.specs.Prelude.{Config, Conn, Event, HasRule, IsConnNumber, IsReached, Machine, Move, Rules, Seen, Setting, Tally, conn, grown, machine_start, machine_step, net_of, open_shares, own, seen_on, setting, with_leaving}
 use Rattle.lard_laws.specs.AsksAnswers.{IsAnswered, MustAnswer, MustEnd, ends_due}
 use Rattle.lard_laws.specs.Asks.{end_in, later_in}
 use Rattle.lard_laws.specs.AsksRuns.{AsksAreAnswered, BatchesEndInSteps}
@@ -28,8 +28,8 @@ module _ (config : Config) (files : List (List ℕ × List ℕ)) where
   abbrev All : Conn → Move → Type 0
   All x v = IsFine x v × Goes (setting config files) x v
 
-  all : Rules (setting config files) All
-  all = both (setting config files) IsFine (Goes (setting config files)) (fine (setting config files)) (all-go (setting config files))
+  all : (k : Setting) → Rules k (λ x v. IsFine x v × Goes k x v)
+  all k = both k IsFine (Goes k) (fine k) (all-go k)
 
   -- where it goes, the dispatcher assigned what is asked
   filling : (x y : Conn) → Fills x y → view.GoesBy (λ x v. IsConnNumber x.c × All x v) x y → view.GoesBy (λ x v. (IsConnNumber x.c × All x v) × Fills x (grown x v)) x y
@@ -47,7 +47,7 @@ module _ (config : Config) (files : List (List ℕ × List ℕ)) where
     after = step-after m on.view e n rule is
 
     goes : view.GoesBy (λ x v. (IsConnNumber x.c × All x v) × Fills x (grown x v)) (conn m q) (conn n q)
-    goes = filling (conn m q) (conn n q) (step-fills m n e after is on.view.told q) (goes-on config files All all m n e on rule is q)
+    goes = filling (conn m q) (conn n q) (step-fills m n e after is on.view.told q) (goes-on config files All (λ l. all (with_leaving (setting config files) l)) m n e on rule is q)
 
     does : (v : Move) → (IsConnNumber (conn m q).c × All (conn m q) v) × Fills (conn m q) (grown (conn m q) v) → Answers (conn m q) v
     does v h = h.0.1.1 (each-way config files m on.reached q).front (known q) (h.0.1.0 h.0.0 (on.view.sound q)).0 h.1

@@ -5,7 +5,7 @@ use Rattle.std.proofs.lemmas.Bool.{cond_both}
 use Rattle.std.proofs.lemmas.List.{length-append}
 use Rattle.std.specs.FinMap as table
 use Rattle.std.specs.List.{list_any}
-use Rattle.lard_law_view.specs.Prelude.{Acknowledged, AreNumbered, BackRow, Body, Client, Completed, Conn, Content, ControlBlock, EndpointParts, Fires, Forwarded, Front, IsConnNumber, IsNodeEnv, IsViewed, Job, Machine, Message, MsgFault, Node, NodeDeed, NodeEnv, NodeGets, NodePart, NodeState, NodeTurn, Offered, Out, Packet, Part, Place, Rec, Recency, SpellsMessage, Station, Stay, Tagged, ToCluster, Was, aside, completed, conn, content_sent, decoded, decoded_message, disk_step, epoch_in, fetched, fetched_file, has_path, is_for, job_at, node_acknowledged, node_at, node_content, node_deed, node_env, node_epoch_at, node_forwarded, node_gets, node_hears, node_offered, node_part, node_read, node_rule, node_saying, node_setting, node_step, node_tagged, node_timer, node_timers, nothing_done, offer_answer, own, packet_at, part_of, sent_of, setting_of, timer_rows, with_first}
+use Rattle.lard_law_view.specs.Prelude.{Acknowledged, AreNumbered, BackRow, Body, Client, Completed, Conn, Content, ControlBlock, EndpointParts, Fires, Forwarded, Front, IsConnNumber, IsNodeEnv, IsViewed, Job, Machine, Message, MsgFault, Node, NodeDeed, NodeEnv, NodeGets, NodePart, NodeState, NodeTurn, Offered, Out, Packet, Part, Place, Rec, Recency, SpellsMessage, Station, Stay, Tagged, ToCluster, Was, aside, completed, conn, content_sent, decoded, decoded_message, disk_step, epoch_in, fetched, fetched_file, has_path, is_for, job_at, leaves_at, node_acknowledged, node_at, node_content, node_deed, node_env, node_epoch_at, node_forwarded, node_gets, node_hears, node_offered, node_part, node_read, node_rule, node_saying, node_setting, node_step, node_tagged, node_timer, node_timers, nothing_done, offer_answer, own, packet_at, part_of, sent_of, setting_of, timer_rows, with_first}
 use Rattle.lard_laws.specs.AsksSent.{AsksGoOn, IsNextAsk, ask_by, last_ask}
 use Rattle.lard_laws.proofs.AsksNodeAsks.{DeedAsks, IsNewer, MayAsk, rule-asks}
 use Rattle.lard_laws.proofs.AsksSending.{PartAsks, asks_in}
@@ -75,7 +75,7 @@ module _ (m : Machine) (view : IsViewed m) (placed : (c : ℕ) → IsPlaced (con
     p = node_part s c
 
     abbrev is-env : IsNodeEnv (setting_of m) c i epoch env
-    is-env = record { place = refl; number = refl; files = refl; stream = refl; node = refl; epoch_is = refl }
+    is-env = record { place = refl; number = refl; files = refl; stream = refl; node = refl; epoch_is = refl; leaves = ap leaves_at (sym there) }
 
     timers-unsent : (q : NodePart) → Each IsUnsent (node_timers i c p q)
     unfolding timer_rows

@@ -4,7 +4,7 @@ use Rattle.std.specs.FinMap.{get-empty}
 use Rattle.std.specs.Ordering.{nat_cmp}
 use Rattle.std.specs.Prelude.{slice_set}
 use Rattle.std.proofs.lemmas.List.Sums.{fold-append}
-use Rattle.lard_law_view.specs.Prelude.{BackIn, BackRow, Body, Came, Config, Conn, ControlBlock, EachMay, EndpointParts, Event, FilesAt, Front, Has, IsConnNumber, IsNodeEnv, IsReached, Letter, Machine, Message, MsgFault, Node, NodeEnv, NodePart, NodeSetting, NodeState, Out, Packet, Place, Rec, Seen, Setting, SpellsMessage, Station, Stay, Tale, Was, assignments, assignments_step, back_held, batch_of, both_of, came_seen, conn, conn_of, decoded_message, file_at, here, is_tag_awaited, is_touched, letter_of, machine_start, machine_told, named_in, net_of, no_stays, node_at, node_env, node_gave, node_part, node_setting, node_step, offer_answer, own, packet_at, seen_on, setting_of, staying, tale_at, touched_step, wrote, wrote_step}
+use Rattle.lard_law_view.specs.Prelude.{BackIn, BackRow, Body, Came, Config, Conn, ControlBlock, EachMay, EndpointParts, Event, FilesAt, Front, Has, IsConnNumber, IsNodeEnv, IsReached, Letter, Machine, Message, MsgFault, Node, NodeEnv, NodePart, NodeSetting, NodeState, Out, Packet, Place, Rec, Seen, Setting, SpellsMessage, Station, Stay, Tale, Was, assignments, assignments_step, back_held, batch_of, both_of, came_seen, conn, conn_of, decoded_message, file_at, here, is_tag_awaited, is_touched, leaves_at, letter_of, machine_start, machine_told, named_in, net_of, no_stays, node_at, node_env, node_gave, node_part, node_setting, node_step, offer_answer, own, packet_at, seen_on, setting_of, staying, tale_at, touched_step, wrote, wrote_step}
 use Rattle.lard_base.specs.declared.event.Event.TheVariants as event
 use Rattle.lard_laws.specs.Asks.{ask_tale}
 use Rattle.lard_laws.proofs.AsksRuns.{each-told}
@@ -105,7 +105,7 @@ module _ (m : Machine) (small : m.config.stream ≤ 2 ^ 30) (reached : IsReached
       env = node_env its s c epoch
 
       is-env : IsNodeEnv k c i epoch env
-      is-env = record { place = refl; number = refl; files = refl; stream = refl; node = refl; epoch_is = refl }
+      is-env = record { place = refl; number = refl; files = refl; stream = refl; node = refl; epoch_is = refl; leaves = ap leaves_at (sym at) }
 
       placed : IsPlaced x
       placed = each-placed m.config m.files m reached c

@@ -1,6 +1,6 @@
 -- Each rule leaves what is said of a connection's requests right, so it is in every run.
 use Rattle.std.proofs.Common.{◌≡◌, ◌≤◌, ◌^◌, ℕ, false, List, [], ◌∷◌, ◌++◌, ◌+◌, length, refl, sym, ◌∙◌, subst}
-use Rattle.lard_law_view.specs.Prelude.{AreSent, Client, ClientRules, Completed, Config, Conn, ControlBlock, EachRow, FilesAt, FrontRules, Guarded, IsGuardedLaw, IsNodeEnv, MayRestOn, Move, Node, NodeDeed, NodeEnv, NodeGets, NodePart, NodeRules, OfEach, Place, Rec, Seen, Setting, Stay, Untouched, UntouchedRules, Work, after_timer, again_sent, brought_said, came_for, come_progress, content_bytes, content_said, file_at, goes_on, gone, grown, node_does, node_fired, node_saying, nothing_said, offered_by, on_segment, packet_seen, read_progress, seen_in, serving, serving_ready_of, setting, spoken, stands, tagged, taken_sent, tale_at, timed, with_work, without, work_of}
+use Rattle.lard_law_view.specs.Prelude.{AreSent, Client, ClientRules, Completed, Config, Conn, ControlBlock, EachRow, FilesAt, FrontRules, Guarded, IsGuardedLaw, IsNodeEnv, MayRestOn, Move, Node, NodeDeed, NodeEnv, NodeGets, NodePart, NodeRules, OfEach, Place, Rec, Seen, Setting, Stay, Untouched, UntouchedRules, Work, after_timer, again_sent, brought_said, came_for, come_progress, content_bytes, content_said, file_at, goes_on, gone, grown, node_does, node_fired, node_saying, nothing_said, offered_by, on_segment, packet_seen, read_progress, seen_in, serving, serving_ready_of, setting, spoken, stands, tagged, taken_sent, tale_at, timed, with_leaving, with_work, without, work_of}
 use Rattle.lard_base.specs.declared.place.TimerKind.TheVariants as timer
 use Rattle.lard_laws.specs.BackingState.{FetchesFor, LetterFor, SaysFor}
 use Rattle.lard_laws.proofs.BackingFronts.{front-makes}
@@ -197,5 +197,5 @@ module _ (config : Config) (files : List (List ℕ × List ℕ)) (small : config
 
   pub each-backed : OfEach config files (Guarded (FetchesFor (file_at files)) (λ c. Mine (file_at files) c))
   each-backed = carried config files (Given k small) (Guarded (FetchesFor (file_at files)) (λ c. Mine (file_at files) c))
-      (guarded-law k (Given k small) (FetchesFor (file_at files)) (λ c. Mine (file_at files) c) (backing-law k small))
+      (λ l. guarded-law (with_leaving k l) (Given k small) (FetchesFor (file_at files)) (λ c. Mine (file_at files) c) (backing-law (with_leaving k l) small))
       (λ m r q. (each-placed config files m r q, states-truthful config files small m r q, (each-guarded config files small m r q).0))

@@ -1,6 +1,6 @@
 -- A connection has one first number of the cluster's side wherever it is, in every run: each rule keeps it.
 use Rattle.std.proofs.Common.{◌≡◌, ◌<◌, ◌^◌, ℕ, List, [], ◌∷◌, ◌++◌, map, Option, Some, None, Ok, refl, sym, ap, ◌∙◌, subst}
-use Rattle.lard_law_view.specs.Prelude.{AreSent, ClientBlock, ClientRules, Config, Conn, ControlBlock, Front, FrontEnv, FrontFires, FrontGets, FrontHears, FrontRules, IsConnSound, IsFrontEnv, IsLaw, IsNodeEnv, Kept, MayRestOn, Move, Node, NodeEnv, NodeRules, OfEach, Place, Rec, Rules, Said, Seen, Setting, Station, Turn, TurnSaid, client_begins, client_does, client_injects, client_opens, client_rule, front_does, front_rule, grown, inject_seen, letter, letters_of, node_does, nothing_said, packet_seen, sent_of, setting, stands}
+use Rattle.lard_law_view.specs.Prelude.{AreSent, ClientBlock, ClientRules, Config, Conn, ControlBlock, Front, FrontEnv, FrontFires, FrontGets, FrontHears, FrontRules, IsConnSound, IsFrontEnv, IsLaw, IsNodeEnv, Kept, MayRestOn, Move, Node, NodeEnv, NodeRules, OfEach, Place, Rec, Rules, Said, Seen, Setting, Station, Turn, TurnSaid, client_begins, client_does, client_injects, client_opens, client_rule, front_does, front_rule, grown, inject_seen, letter, letters_of, node_does, nothing_said, packet_seen, sent_of, setting, stands, with_leaving}
 use Rattle.lard_law_view.proofs.EachClient.{client_seen, each-client}
 use Rattle.lard_history.proofs.Each.{Each, Each-append}
 use Rattle.lard_law_connections.proofs.PlacesFrontRules.{has-each}
@@ -201,4 +201,4 @@ module _ (k : Setting) where
 
 -- In every state that events lead to.
 pub one-first : (config : Config) (files : List (List ℕ × List ℕ)) → OfEach config files HasOneFirst
-one-first config files = carried config files Nothing HasOneFirst (first-law (setting config files)) (λ m r q. tt)
+one-first config files = carried config files Nothing HasOneFirst (λ l. first-law (with_leaving (setting config files) l)) (λ m r q. tt)

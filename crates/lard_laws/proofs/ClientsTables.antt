@@ -3,7 +3,7 @@ use Rattle.std.proofs.Common.{◌≡◌, ℕ, List, [], ◌∷◌, ◌++◌, map
 use Rattle.std.proofs.lemmas.List.{map-append}
 use Rattle.std.proofs.lemmas.List.Sums.{fold-append}
 use Rattle.std.specs.List.{fold}
-use Rattle.lard_law_view.specs.Prelude.{Came, Client, ClientBlock, ClientGets, ClientReceives, Config, Conn, Front, IsClientStep, IsGiven, IsLaw, IsNobody, IsStepLaw, MayRestOn, Move, MustKeepTables, Node, NoneOfClient, OfEach, Place, Rec, Row, Rules, Seen, Setting, Station, Turn, after_turn, client_begins, client_does, client_injects, client_of, client_opens, client_rule, client_step, client_turn, grown, is_client_armed, is_opening, nothing_said, packet_seen, rows_of, seen_in, setting, stands, station_armed, timer_change, timer_rows, turn_rows}
+use Rattle.lard_law_view.specs.Prelude.{Came, Client, ClientBlock, ClientGets, ClientReceives, Config, Conn, Front, IsClientStep, IsGiven, IsLaw, IsNobody, IsStepLaw, MayRestOn, Move, MustKeepTables, Node, NoneOfClient, OfEach, Place, Rec, Row, Rules, Seen, Setting, Station, Turn, after_turn, client_begins, client_does, client_injects, client_of, client_opens, client_rule, client_step, client_turn, grown, is_client_armed, is_opening, nothing_said, packet_seen, rows_of, seen_in, setting, stands, station_armed, timer_change, timer_rows, turn_rows, with_leaving}
 use Rattle.lard_base.specs.declared.event.Event.TheVariants as event
 use Rattle.lard_laws.specs.ClientsLaws.{ClientsKeepTheirTables}
 use Rattle.lard_laws.proofs.ClientsAsides.{IsAside, asides-step, asides-still, machine-aside, same-station}
@@ -179,8 +179,8 @@ stepping k = record {
 
 -- each client is what it saw, in every run
 pub clients-folded : (config : Config) (files : List (List ℕ × List ℕ)) → OfEach config files IsFolded
-clients-folded config files = carried config files Anything IsFolded (folding (setting config files)) (λ m r q. tt)
+clients-folded config files = carried config files Anything IsFolded (λ l. folding (with_leaving (setting config files) l)) (λ m r q. tt)
 
 pub clients-keep : ClientsKeepTheirTables
 clients-keep config files m r = carried-steps config files IsFolded MustKeepTables (λ c past seen. IsClientStep c (client_of c past) seen) (λ past s h. h)
-    (stepping (setting config files)) (clients-folded config files) m r
+    (λ l. stepping (with_leaving (setting config files) l)) (clients-folded config files) m r

@@ -4,7 +4,7 @@ use Rattle.std.proofs.lemmas.Bool.{both_ways}
 use Rattle.std.specs.FinMap as table
 use Rattle.std.specs.List.{fold}
 use Rattle.std.proofs.lemmas.List.Sums.{fold-append}
-use Rattle.lard_law_view.specs.Prelude.{Came, Client, ClientBlock, ClientStands, ClientTale, Config, Conn, EachRow, Event, IsLaw, IsOpened, IsReached, IsUnopened, Machine, MayRestOn, MayWrite, Move, OfEach, Place, Rec, Row, Rules, Seen, Setting, Station, Tale, ToClient, Turn, client_aborts, client_begins, client_does, client_gets, client_holds, client_injects, client_opens, client_shuts, client_takes, client_tale, client_timer, client_writes, conn, decoded, event_seen, event_shuts, grown, has_closed, inject_seen, nothing_said, own, packet_seen, part_of, plain, request, rows_of, seen_in, seen_step, setting, stands, tale, tale_at, tale_of, tale_step, timer_rows, told_on, untold, whose}
+use Rattle.lard_law_view.specs.Prelude.{Came, Client, ClientBlock, ClientStands, ClientTale, Config, Conn, EachRow, Event, IsLaw, IsOpened, IsReached, IsUnopened, Machine, MayRestOn, MayWrite, Move, OfEach, Place, Rec, Row, Rules, Seen, Setting, Station, Tale, ToClient, Turn, client_aborts, client_begins, client_does, client_gets, client_holds, client_injects, client_opens, client_shuts, client_takes, client_tale, client_timer, client_writes, conn, decoded, event_seen, event_shuts, grown, has_closed, inject_seen, nothing_said, own, packet_seen, part_of, plain, request, rows_of, seen_in, seen_step, setting, stands, tale, tale_at, tale_of, tale_step, timer_rows, told_on, untold, whose, with_leaving}
 use Rattle.lard_base.specs.declared.event.Event.TheVariants as event
 use Rattle.lard_laws.specs.ClientsFirsts.{StandsAsTold}
 use Rattle.lard_laws.specs.ClientsLaws.{WritersAreLawful}
@@ -245,11 +245,11 @@ standing k = record {
 pub writers-are : WritersAreLawful
 unfolding conn
 writers-are config files m r = carried-records config files MayWrite May wrote-nobody wrote-somebody
-    (λ n s q. (carried config files Anything StandsOpen (standing (setting config files)) (λ m r q. tt) n s q).lawful) m r
+    (λ n s q. (carried config files Anything StandsOpen (λ l. standing (with_leaving (setting config files) l)) (λ m r q. tt) n s q).lawful) m r
 
 -- each client stands as its tale tells
 pub stand-as-told : (config : Config) (files : List (List ℕ × List ℕ)) → OfEach config files StandsAsTold
-stand-as-told config files m r q = (carried config files Anything StandsOpen (standing (setting config files)) (λ n s p. tt) m r q).client
+stand-as-told config files m r q = (carried config files Anything StandsOpen (λ l. standing (with_leaving (setting config files) l)) (λ n s p. tt) m r q).client
 
 -- what is kept of each client fits what is told of it
 pub clients-stand : (config : Config) (files : List (List ℕ × List ℕ)) (m : Machine) → IsReached config files m → (c : ℕ) → ClientStands c (table.get m.clients c) (client_tale (tale m.journal c))

@@ -1,7 +1,7 @@
 -- In every state what a node asked for and has not got was sent, and no answer to it came behind that.
 use Rattle.std.proofs.Common.{◌≡◌, ◌≢◌, ◌⊎◌, ◌<◌, ◌≤◌, ◌^◌, ◌==◌, ◌||◌, nat_lt, eqb-true, ℕ, zero, suc, Bool, true, false, List, [], ◌∷◌, ◌++◌, length, slice_get, Ok, Option, Some, None, inl, inr, ⊎_elim, refl, sym, ap, ◌∙◌, subst, arith}
 use Rattle.std.proofs.lemmas.Bool.{both_ways, ltb-true}
-use Rattle.lard_law_view.specs.Prelude.{BackRow, Body, Client, ClientBlock, ClientRules, Config, Conn, ControlBlock, FilesAt, Front, FrontConn, FrontRow, FrontRules, Has, IsLaw, IsNodeEnv, IsReached, IsUnheard, Letter, Machine, MayRestOn, Message, Move, Node, NodeEnv, NodePart, NodeRules, NodeState, Place, Row, Rules, Seen, Setting, SpellsMessage, Station, Stay, ToCluster, Turn, brought_said, client_begins, client_does, client_injects, client_rule, conn, content_said, decoded, decoded_message, epoch_in, event_seen, file_at, front_does, front_rule, grown, here, inject_seen, is_no_node, kept_at, node_acknowledged, node_at, node_content, node_does, node_forwarded, node_offered, node_read, node_tagged, node_timer, nothing_kept, nothing_said, packet_seen, part_of, reads_first, seen_in, setting, stands, tale_at}
+use Rattle.lard_law_view.specs.Prelude.{BackRow, Body, Client, ClientBlock, ClientRules, Config, Conn, ControlBlock, FilesAt, Front, FrontConn, FrontRow, FrontRules, Has, IsLaw, IsNodeEnv, IsReached, IsUnheard, Letter, Machine, MayRestOn, Message, Move, Node, NodeEnv, NodePart, NodeRules, NodeState, Place, Row, Rules, Seen, Setting, SpellsMessage, Station, Stay, ToCluster, Turn, brought_said, client_begins, client_does, client_injects, client_rule, conn, content_said, decoded, decoded_message, epoch_in, event_seen, file_at, front_does, front_rule, grown, here, inject_seen, is_no_node, kept_at, node_acknowledged, node_at, node_content, node_does, node_forwarded, node_offered, node_read, node_tagged, node_timer, nothing_kept, nothing_said, packet_seen, part_of, reads_first, seen_in, setting, stands, tale_at, with_leaving}
 use Rattle.lard_law_view.proofs.EachFront.{each-front, of-front}
 use Rattle.lard_law_view.proofs.EachClient.{each-client, of-client}
 use Rattle.lard_base.specs.declared.event.Event.TheVariants as event
@@ -29,10 +29,10 @@ use Rattle.lard_rules.specs.Node as node
 use Rattle.lard_law_view.proofs.Deeds.{front-heads, node-heads, node-place}
 
 -- what is kept, and where it is; a node that is not there keeps nothing
-record Known (k : Setting) (x : Conn) : Type 0 where
-  pub kept : IsKeptByStage AnyNode k.files x
+record Known (nodes : ℕ) (files : FilesAt) (x : Conn) : Type 0 where
+  pub kept : IsKeptByStage AnyNode files x
   pub placed : IsPlaced x
-  pub absent : (n : ℕ) → is_no_node k.nodes n ≡ true → x.part.nodes n ≡ nothing_kept
+  pub absent : (n : ℕ) → is_no_node nodes n ≡ true → x.part.nodes n ≡ nothing_kept
 
 -- ---- what comes
 
@@ -117,7 +117,7 @@ here-low x placed n e = go (here e (x.part.nodes n)) refl where
 
 module _ (k : Setting) where
   abbrev Goes : Conn → Move → Type 0
-  Goes x v = MayRestOn (Known k) x → AwaitsAnswers k.files x → AwaitsAnswers k.files (grown x v)
+  Goes x v = MayRestOn (Known k.nodes k.files) x → AwaitsAnswers k.files x → AwaitsAnswers k.files (grown x v)
 
   -- what nodes keep stays
   asides : (x : Conn) (v : Move) → ((n : ℕ) → v.part.nodes n ≡ x.part.nodes n) → ((n : ℕ) → AllCalm k.files x.seen (seen_in x v) n x.c) → AwaitsAnswers k.files x → AwaitsAnswers k.files (grown x v)
@@ -195,7 +195,7 @@ module _ (k : Setting) where
     by-deed (node.Does given) mine i = put-each x.part.nodes n given.0 Out mine rest i
 
   -- a rule, over what its node keeps
-  by-node : (x : Conn) (n epoch : ℕ) (env : NodeEnv) → IsNodeEnv k x.c n epoch env → MayRestOn (Known k) x → (d : node.NodeDeed) (v : Move) → v.part.nodes ≡ (node_does x n [] d).part.nodes
+  by-node : (x : Conn) (n epoch : ℕ) (env : NodeEnv) → IsNodeEnv k x.c n epoch env → MayRestOn (Known k.nodes k.files) x → (d : node.NodeDeed) (v : Move) → v.part.nodes ≡ (node_does x n [] d).part.nodes
       → v.place ≡ Node n → v.said.messages ≡ messages_of d → ((i : ℕ) → i ≢ n → AllCalm k.files x.seen (seen_in x v) i x.c)
       → (NodeKeepsMessages AnyNode env.serve.files env.serve.c env.n (x.part.nodes n) → PartIsOut env.serve.files x.seen env.n env.serve.c (x.part.nodes n) → AreSeen env.n (seen_in x v) d → PartIsOut env.serve.files (x.seen ++ seen_in x v) env.n env.serve.c (part_behind (x.part.nodes n) d))
       → AwaitsAnswers k.files x → AwaitsAnswers k.files (grown x v)
@@ -221,7 +221,7 @@ module _ (k : Setting) where
   any (n ∷ ns) = (tt, any ns)
 
   -- as a message comes to it
-  module _ (x : Conn) (n epoch : ℕ) (env : NodeEnv) (is : IsNodeEnv k x.c n epoch env) (may : MayRestOn (Known k) x) (from : Place) (b : Body) (bytes : List ℕ) (spells : SpellsMessage x.c epoch b bytes) (d : node.NodeDeed) where
+  module _ (x : Conn) (n epoch : ℕ) (env : NodeEnv) (is : IsNodeEnv k x.c n epoch env) (may : MayRestOn (Known k.nodes k.files) x) (from : Place) (b : Body) (bytes : List ℕ) (spells : SpellsMessage x.c epoch b bytes) (d : node.NodeDeed) where
     abbrev heads : List Seen
     heads = packet_seen from (Node n) bytes
 
@@ -302,7 +302,7 @@ module _ (k : Setting) where
   }
 
   -- a packet that nobody hears: it answers nothing, or comes to a node that keeps nothing
-  module _ (x : Conn) (from to : Place) (bytes : List ℕ) (unheard : IsUnheard k.nodes x.part.station from to bytes) (may : MayRestOn (Known k) x) (h : AwaitsAnswers k.files x) where
+  module _ (x : Conn) (from to : Place) (bytes : List ℕ) (unheard : IsUnheard k.nodes x.part.station from to bytes) (may : MayRestOn (Known k.nodes k.files) x) (h : AwaitsAnswers k.files x) where
     abbrev passes : Move
     passes = stands x to (packet_seen from to bytes) nothing_said
 
@@ -327,7 +327,7 @@ module _ (k : Setting) where
     injects = λ x s bytes there rule may h. client-goes x s (inject_seen x.c bytes) (client_injects s.client bytes) (λ P. ((λ a. a), ((λ a. a), tt))) h;
   }
 
-  answers-law : IsLaw k (Known k) (AwaitsAnswers k.files)
+  answers-law : IsLaw k (Known k.nodes k.files) (AwaitsAnswers k.files)
   answers-law = record { begins = λ c n. tt; moves = rules }
 
 -- ---- every state
@@ -352,5 +352,5 @@ absent-at config files m r q n none =
 
 -- In every state that events lead to.
 pub connections-await-answers : ConnectionsAwaitAnswers
-connections-await-answers config files = carried config files (Known (setting config files)) (AwaitsAnswers (file_at files)) (answers-law (setting config files))
+connections-await-answers config files = carried config files (Known config.nodes (file_at files)) (AwaitsAnswers (file_at files)) (λ l. answers-law (with_leaving (setting config files) l))
     (λ m r q. record { kept = connections-are-kept config files m r q; placed = each-placed config files m r q; absent = absent-at config files m r q })

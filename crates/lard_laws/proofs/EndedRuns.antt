@@ -1,7 +1,7 @@
 -- Each rule keeps what is told of an end: it was so, in every run.
 use Rattle.std.proofs.Common.{◌≡◌, ◌≤◌, ◌^◌, ℕ, false, List, [], ◌∷◌, Some, refl, sym, ap, ◌∙◌, subst}
 use Rattle.std.specs.List.{fold}
-use Rattle.lard_law_view.specs.Prelude.{Conn, FilesAt, Final, FrontRules, IsMachine, IsNodeEnv, IsUntouchedLaw, MayRestOn, Move, Node, NodeEnv, NodeRules, Place, Seen, Setting, Station, Stream, TurnSaid as SaidIn, Untouched, UntouchedRules, brought_said, content_said, file_at, front_does, grown, letters_of, node_does, nothing_said, packet_seen, seen_step, setting, stands, tale_at, tale_step}
+use Rattle.lard_law_view.specs.Prelude.{Conn, FilesAt, Final, FrontRules, IsMachine, IsNodeEnv, IsUntouchedLaw, MayRestOn, Move, Node, NodeEnv, NodeRules, Place, Seen, Setting, Station, Stream, TurnSaid as SaidIn, Untouched, UntouchedRules, brought_said, content_said, file_at, front_does, grown, letters_of, node_does, nothing_said, packet_seen, seen_step, setting, stands, tale_at, tale_step, with_leaving}
 use Rattle.lard_law_connections.specs.BytesAgreement.{IsOpen, IsTruthful}
 use Rattle.lard_law_connections.proofs.BytesClientMoves.{open-at}
 use Rattle.lard_law_connections.proofs.BytesRuns.{states-truthful}
@@ -143,5 +143,6 @@ module _ (k : Setting) (small : k.stream ≤ 2 ^ 30) where
 pub connections-were-closed : ConnectionsWereClosed
 connections-were-closed config files small =
     let k : Setting = setting config files in
-    carried config files (Given k small) (Untouched (EndsAreTrue (file_at files))) (untouched-law k (Given k small) (EndsAreTrue (file_at files)) (ended-law k small))
+    carried config files (Given k small) (Untouched (EndsAreTrue (file_at files)))
+    (λ l. untouched-law (with_leaving k l) (Given k small) (EndsAreTrue (file_at files)) (ended-law (with_leaving k l) small))
     (λ m r q. (each-placed config files m r q, states-truthful config files small m r q, connections-stop config files m r q))

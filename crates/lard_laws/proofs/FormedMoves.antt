@@ -3,7 +3,7 @@ use Rattle.std.proofs.Common.{◌≡◌, ℕ, ◌≤◌, List, [], ◌∷◌, �
 use Rattle.lard_history.proofs.Each.{Each, Each-append, Each-weaker}
 use Rattle.lard_history.proofs.Seeing.{has-each}
 use Rattle.lard_journal.specs.declared.rec.Rec.TheVariants as rec
-use Rattle.lard_law_view.specs.Prelude.{AreSent, Ask, AskedBy, Client, ClientBlock, ClientGets, ClientRules, Config, Conn, FilesAt, Front, FrontEnv, FrontGets, FrontRules, GoesBetween, IsLaw, IsMachine, IsNodeEnv, Kept, Letter, MayRestOn, Move, Node, NodeDeed, NodeEnv, NodeGets, NodePart, OfEach, Place, Rec, Row, Rules, Seen, Setting, Station, ToWrite, Turn, again_sent, brought_said, client_begins, client_does, client_injects, client_opens, client_rule, content_said, file_at, front_does, front_rule, grown, inject_seen, letter, letters_of, named_in, named_records, node_does, node_rule, nothing_said, packet_seen, rows_of, seen_in, sent_of, setting, stands, timer_rows}
+use Rattle.lard_law_view.specs.Prelude.{AreSent, Ask, AskedBy, Client, ClientBlock, ClientGets, ClientRules, Config, Conn, FilesAt, Front, FrontEnv, FrontGets, FrontRules, GoesBetween, IsLaw, IsMachine, IsNodeEnv, Kept, Letter, MayRestOn, Move, Node, NodeDeed, NodeEnv, NodeGets, NodePart, OfEach, Place, Rec, Row, Rules, Seen, Setting, Station, ToWrite, Turn, again_sent, brought_said, client_begins, client_does, client_injects, client_opens, client_rule, content_said, file_at, front_does, front_rule, grown, inject_seen, letter, letters_of, named_in, named_records, node_does, node_rule, nothing_said, packet_seen, rows_of, seen_in, sent_of, setting, stands, timer_rows, with_leaving}
 use Rattle.lard_law_view.specs.View.{sending}
 use Rattle.lard_law_view.proofs.Carried.{carried}
 use Rattle.lard_law_view.proofs.EachClient.{client_seen, each-client, of-client}
@@ -292,4 +292,4 @@ module _ (k : Setting) (short : AreFilePathsShort k.files) where
 
 -- In every state that events lead to.
 pub each-told : (config : Config) (files : List (List ℕ × List ℕ)) → AreFilePathsShort (file_at files) → OfEach config files (AreToldSo (file_at files))
-each-told config files short = carried config files (λ x. Unit {0}) (AreToldSo (file_at files)) (told-law (setting config files) short) (λ m r q. tt)
+each-told config files short = carried config files (λ x. Unit {0}) (AreToldSo (file_at files)) (λ l. told-law (with_leaving (setting config files) l) short) (λ m r q. tt)

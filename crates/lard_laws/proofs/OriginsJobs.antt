@@ -1,6 +1,6 @@
 -- The jobs of all disks are for nodes that decided their connections in the epochs of the jobs, or behind these.
 use Rattle.std.proofs.Common.{◌≡◌, ◌≢◌, ◌⊎◌, ℕ, List, Option, Some, None, Ok, refl, sym, ap, ◌∙◌, subst, ⊎_elim}
-use Rattle.lard_law_view.specs.Prelude.{BackIn, Body, Config, Conn, Event, GoesBy, Has, HasRule, IsConnNumber, Job, Letter, Machine, Move, Node, NodeState, Packet, SpellsMessage, Was, conn, conn_of, grown, kept_at, letters, machine_start, machine_step, machine_told, no_stays, node_at, node_part, node_setting, node_step, packet_at, part_of, setting}
+use Rattle.lard_law_view.specs.Prelude.{BackIn, Body, Config, Conn, Event, GoesBy, Has, HasRule, IsConnNumber, Job, Letter, Machine, Move, Node, NodeState, Packet, SpellsMessage, Was, conn, conn_of, grown, kept_at, letters, machine_start, machine_step, machine_told, no_stays, node_at, node_part, node_setting, node_step, packet_at, part_of, setting, with_leaving}
 use Rattle.lard_laws.proofs.OriginsDisks.{IsFetched, IsOfStep, IsOwn, step-jobs}
 use Rattle.lard_laws.specs.OriginsLaws.{JobsComeFromHome}
 use Rattle.lard_law_connections.proofs.Forms.{Comes, NodeStep, NodesStay, node-form}
@@ -54,7 +54,7 @@ module _ (config : Config) (files : List (List ℕ × List ℕ)) (m n : Machine)
       let placed : IsPlaced (conn m q) = each-placed config files m on.reached q in
       let P : Conn → Move → Type 0 = Owing (setting config files) IsPlaced in
       let goes : GoesBy (λ x v. IsConnNumber x.c × P x v) (conn m q) (conn n q) =
-      goes-on config files P (owing (setting config files) IsPlaced) m n e on rule is q in
+      goes-on config files P (λ l. owing (with_leaving (setting config files) l) IsPlaced) m n e on rule is q in
       ⊎_elim
       (λ (same : conn n q ≡ conn m q). subst (λ (y : Conn). Grows (conn m q).part y.part) (sym same) (grows-still (conn m q).part))
       (λ (k : (v : Move) × (IsConnNumber (conn m q).c × P (conn m q) v) × (conn n q ≡ grown (conn m q) v)).

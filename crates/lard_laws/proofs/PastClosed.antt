@@ -195,7 +195,7 @@ module _ (config : Config) (files : List (List ℕ × List ℕ)) (checked : conf
       let more : (k : ℕ) → IsClosed m.journal k → IsClosed n.journal k =
       λ k closed. subst (λ (J : List Rec). IsClosed J k) (sym after.is) (closed-more m.journal after.step k closed) in
       let P : Conn → Move → Type 0 = λ x v. MayRestOn IsPlaced x → Goes x v in
-      let goes : GoesBy (λ x v. IsConnNumber x.c × P x v) (conn m q) (conn n q) = goes-on config files P (going _) m n e on rule is q in
+      let goes : GoesBy (λ x v. IsConnNumber x.c × P x v) (conn m q) (conn n q) = goes-on config files P (λ l. going _) m n e on rule is q in
       ⊎_elim
       (λ (same : conn n q ≡ conn m q). subst (IsPastSo n.journal) (sym same) (stays-so m.journal n.journal more (conn m q) (h q)))
       (λ (k : (v : Move) × (IsConnNumber (conn m q).c × P (conn m q) v) × (conn n q ≡ grown (conn m q) v)).

@@ -1,6 +1,6 @@
 -- An epoch is of one node, and a node tells the end of a stay only where that is known: each rule keeps it, so it is in every run.
 use Rattle.std.proofs.Common.{◌≡◌, ◌⊎◌, ℕ, List, Option, Some, None, refl, sym, ap, ◌∙◌, subst, inl, inr, ⊎_elim, arith}
-use Rattle.lard_law_view.specs.Prelude.{BackConn, BackRow, Conn, Epoch, FrontConn, FrontRow, IsLaw, MayRestOn, Move, NodePart, Setting, gone, grown, node_put_back, Rec, setting, tale_at}
+use Rattle.lard_law_view.specs.Prelude.{BackConn, BackRow, Conn, Epoch, FrontConn, FrontRow, IsLaw, MayRestOn, Move, NodePart, Setting, gone, grown, node_put_back, Rec, setting, tale_at, with_leaving}
 use Rattle.lard_laws.specs.Past.{AtFront, AtNode, DecidedIn, EndsAreOfStays, EpochsAreOfOneNode, Over, RowTells, StageTells, Whereabouts, stage_whereabouts, whereabouts, whereabouts_of}
 use Rattle.lard_laws.specs.PastLaws.{EachEndIsOfItsStay, EachEpochIsOfOneNode}
 use Rattle.lard_laws.proofs.PastMoves.{Closes, Ends, Forgets, FrontGoes, Goes, Hands, InFront, InNode, IsThere, NodeGoes, Stays, going}
@@ -156,7 +156,7 @@ module _ (k : Setting) where
   }
 
 pub each-epoch-is-of-one-node : EachEpochIsOfOneNode
-each-epoch-is-of-one-node config files = carried config files IsPlaced EpochsAreOfOneNode (epochs-law (setting config files)) (each-placed config files)
+each-epoch-is-of-one-node config files = carried config files IsPlaced EpochsAreOfOneNode (λ l. epochs-law (with_leaving (setting config files) l)) (each-placed config files)
 
 pub each-end-is-of-its-stay : EachEndIsOfItsStay
-each-end-is-of-its-stay config files = carried config files IsPlaced EndsAreOfStays (ends-law (setting config files)) (each-placed config files)
+each-end-is-of-its-stay config files = carried config files IsPlaced EndsAreOfStays (λ l. ends-law (with_leaving (setting config files) l)) (each-placed config files)

@@ -2,7 +2,7 @@
 use Rattle.std.proofs.Common.{◌≡◌, ◌≤◌, ◌^◌, ℕ, Bool, true, false, cond, List, [], ◌∷◌, ◌++◌, map, Some, Ok, refl, sym, ap, ◌∙◌, subst, append_assoc, append-nil}
 use Rattle.std.proofs.lemmas.List.Sums.{fold-append}
 use Rattle.std.specs.List.{AllByRecursion, fold}
-use Rattle.lard_law_view.specs.Prelude.{Client, Config, Conn, EachStep, Event, FilesAt, Front, FrontRules, GoesBy, HasRule, IsConnNumber, IsConnSound, IsReached, Machine, MayRestOn, Move, Node, OfEach, Packet, Place, Rec, Row, Rules, Seen, Setting, Station, Tale, Untouched, UntouchedRules, client_does, client_injects, conn, file_at, front_does, front_rule, grown, inject_seen, is_opening, is_touched, machine_start, machine_step, net_of, net_step, nothing_said, own, packet_seen, plain, rows_of, seen_in, seen_of, seen_on, seen_step, setting, stands, steps, tale_at, tale_of, tale_step, untold, whose}
+use Rattle.lard_law_view.specs.Prelude.{Client, Config, Conn, EachStep, Event, FilesAt, Front, FrontRules, GoesBy, HasRule, IsConnNumber, IsConnSound, IsReached, Machine, MayRestOn, Move, Node, OfEach, Packet, Place, Rec, Row, Rules, Seen, Setting, Station, Tale, Untouched, UntouchedRules, client_does, client_injects, conn, file_at, front_does, front_rule, grown, inject_seen, is_opening, is_touched, machine_start, machine_step, net_of, net_step, nothing_said, own, packet_seen, plain, rows_of, seen_in, seen_of, seen_on, seen_step, setting, stands, steps, tale_at, tale_of, tale_step, untold, whose, with_leaving}
 use Rattle.lard_law_view.proofs.EachFront.{each-front}
 use Rattle.lard_base.specs.declared.event.Event.TheVariants as event
 use Rattle.lard_law_connections.specs.BytesAgreement.{IsTruthful}
@@ -228,7 +228,7 @@ module _ (config : Config) (files : List (List ℕ × List ℕ)) (small : config
       u = requests_read m.journal q
 
       goes : GoesBy Does (conn m q) (conn n q)
-      goes = goes-on config files (Says k small) (all-say k small) m n e on rule is q
+      goes = goes-on config files (Says k small) (λ l. all-say (with_leaving k l) small) m n e on rule is q
 
       says : (v : Move) → Does (conn m q) v → (tale_at (conn m q)).touched ≡ false → AllFit k.files u (conn m q) v × Untouched (Lands k small u) (grown (conn m q) v)
       says v does t = let h = known_of q t in does.1 (may-move (Given k small) (conn m q) does.0 (on.view.sound q) (each-given m on.reached q)) t h.0 u h.1

@@ -4,7 +4,7 @@ use Rattle.std.specs.Prelude.{◌⊎◌}
 use Rattle.std.proofs.lemmas.Bool.{both_ways}
 use Rattle.std.proofs.lemmas.List.Sums.{fold-append}
 use Rattle.std.specs.List.{fold, list_all}
-use Rattle.lard_law_view.specs.Prelude.{Came, ChangesTimers, Client, Config, Conn, Event, Front, HasRule, HasTimer, IsConnNumber, IsLaw, IsMachine, IsReached, IsViewed, Machine, MayRestOn, Move, Node, NodePart, OfEach, Part, Place, Rec, Row, Rules, Seen, Setting, TimerKind, armed_step, blank_conn, conn, front_armed, grown, is_change, is_place, machine_step, node_armed, packets_of, part_of, rows_of, seen_step, sent_records, setting, timer_change, timer_kinds, timer_rows}
+use Rattle.lard_law_view.specs.Prelude.{Came, ChangesTimers, Client, Config, Conn, Event, Front, HasRule, HasTimer, IsConnNumber, IsLaw, IsMachine, IsReached, IsViewed, Machine, MayRestOn, Move, Node, NodePart, OfEach, Part, Place, Rec, Row, Rules, Seen, Setting, TimerKind, armed_step, blank_conn, conn, front_armed, grown, is_change, is_place, machine_step, node_armed, packets_of, part_of, rows_of, seen_step, sent_records, setting, timer_change, timer_kinds, timer_rows, with_leaving}
 use Rattle.lard_law_view.proofs.EachClient.{each-client, of-client}
 use Rattle.lard_base.specs.declared.event.Event.TheVariants as event
 use Rattle.lard_base.specs.declared.place.TimerKind.TheVariants.{Tcp, Offer, Ask, Fetch, Ended}
@@ -13,7 +13,7 @@ use Rattle.lard_law_view.specs.View.{sending}
 use Rattle.lard_law_view.proofs.Acts.{ActsAlone, ActsMany, AreApart, IsPassing, IsStepOf, Moving, step_acts, timers_in}
 use Rattle.lard_law_view.proofs.AnyShape.{SomeGift, SomeNote, some-noted}
 use Rattle.lard_law_view.proofs.After.{IsAfter, step-after}
-use Rattle.lard_law_view.proofs.Carried.{IsOn, carried, carried-keep, on-setting}
+use Rattle.lard_law_view.proofs.Carried.{IsOn, carried, carried-keep, on-rules}
 use Rattle.lard_law_view.proofs.Fine.{IsFine, IsItsOwn, fine}
 use Rattle.lard_law_view.proofs.Frames.{IsAtMachine, IsHeadAt, KeepsAt, Owed, fronts-leave, nodes-leave}
 use Rattle.lard_law_view.proofs.Guarded.{both, weaker}
@@ -196,7 +196,7 @@ timing k = record {
 
 module _ (config : Config) (files : List (List ℕ × List ℕ)) where
   timed-always : OfEach config files IsTimed
-  timed-always = carried config files Anything IsTimed (timing (setting config files)) (λ m r q. tt)
+  timed-always = carried config files Anything IsTimed (λ l. timing (with_leaving (setting config files) l)) (λ m r q. tt)
 
   runs-kept : (m : Machine) → IsReached config files m → (c : ℕ) → RunsAsKept m c
   unfolding conn
@@ -306,7 +306,7 @@ module _ (config : Config) (files : List (List ℕ × List ℕ)) where
   one-step : (k n : Machine) (e : Event) → IsOn config files k → AreLawful ChangesTimers k.journal → HasRule e → machine_step k e ≡ Ok n → AreLawful ChangesTimers n.journal
   one-step k n e on h rule is =
       let shape : IsAfter k e n = step-after k on.view e n rule is in
-      let step : IsStepOf Changes k n e = step_acts k n e Changes on.view (subst (λ (s : Setting). Rules s Changes) (on-setting config files k on) (changing (setting config files))) rule is in
+      let step : IsStepOf Changes k n e = step_acts k n e Changes on.view (on-rules config files Changes (λ l. changing (with_leaving (setting config files) l)) k on) rule is in
       let opening : Rec = rec.Event (k.events + 1) e in
       let same : shape.step ≡ opening ∷ step.adds = cancel k.journal shape.step (opening ∷ step.adds) (sym shape.is ∙ step.journal) in
       subst (AreLawful ChangesTimers) (sym shape.is)

@@ -1,6 +1,6 @@
 -- In every run: Fetches go to nodes that are there, and so do connections.
-use Rattle.std.proofs.Common.{◌≡◌, ℕ, false, true, List, Ok, subst}
-use Rattle.lard_law_view.specs.Prelude.{Config, Conn, IsNode, IsUntouchedLaw, MayRestOn, OfEach, Setting, Untouched, config_check, conn, file_at, grown, is_row_at, part_of, setting, tale_at}
+use Rattle.std.proofs.Common.{◌≡◌, ℕ, false, true, List, Ok, subst, Bool}
+use Rattle.lard_law_view.specs.Prelude.{Config, Conn, IsNode, IsUntouchedLaw, MayRestOn, OfEach, Setting, Untouched, config_check, conn, file_at, grown, is_row_at, part_of, setting, tale_at, with_leaving}
 use Rattle.lard_law_connections.specs.Kept.{IsKeptByStage}
 use Rattle.lard_law_connections.proofs.KeptRuns.{kept-law}
 use Rattle.lard_law_connections.proofs.PolicyCounted.{IsCounted, reached-counted}
@@ -35,9 +35,9 @@ module _ (config : Config) (files : List (List ℕ × List ℕ)) (checked : conf
   abbrev Now : Conn → Type 0
   Now x = Agreed N (file_at files) x
 
-  going-law : IsUntouchedLaw (setting config files) Given Inv
-  going-law =
-      let k : Setting = setting config files in
+  going-law : (l : ℕ → Bool) → IsUntouchedLaw (with_leaving (setting config files) l) Given Inv
+  going-law l =
+      let k : Setting = with_leaving (setting config files) l in
       let law = kept-law N Now (tags-name N (file_at files)) k in record {
         begins = law.begins;
         moves = untouched-weaker k (λ x v. MayRestOn Now x → Inv x → Inv (grown x v)) (λ x v. MayRestOn Given x → (tale_at x).touched ≡ false → Inv x → Inv (grown x v))
@@ -46,7 +46,7 @@ module _ (config : Config) (files : List (List ℕ × List ℕ)) (checked : conf
 
   -- each Fetch of a connection goes to a node that is there
   pub each-goes : OfEach config files (Untouched Inv)
-  each-goes = carried config files Given (Untouched Inv) (untouched-law (setting config files) Given Inv going-law) each-agrees
+  each-goes = carried config files Given (Untouched Inv) (λ l. untouched-law (with_leaving (setting config files) l) Given Inv (going-law l)) each-agrees
 
   -- ---- where connections are
 

@@ -1,7 +1,7 @@
 -- Each rule leaves the last Tag as it must be, by what the dispatcher answers, so it is in every run.
 use Rattle.std.proofs.Common.{◌≡◌, ℕ, false, true, List, [], ◌∷◌, Option, Some, None, Ok, refl, sym, ap, ◌∙◌, subst, inl, inr, ⊎_elim}
 use Rattle.std.proofs.lemmas.Bool.{cond_both}
-use Rattle.lard_law_view.specs.Prelude.{Acknowledged, BackRow, ClientRules, Completed, Config, Conn, Content, Event, FilesAt, Fires, Forwarded, FrontRules, HasRule, IsConnNumber, IsNode, IsNodeEnv, IsReached, Machine, Move, NodeEnv, NodeGets, NodePart, NodeRules, Offered, Rules, Seen, Setting, Tagged, Untouched, awaits_ack, config_check, conn, epoch_in, file_at, grown, here, is_gone, machine_start, machine_step, node_rule, node_saying, offer_answer, setting, tale_at, without}
+use Rattle.lard_law_view.specs.Prelude.{Acknowledged, BackRow, ClientRules, Completed, Config, Conn, Content, Event, FilesAt, Fires, Forwarded, FrontRules, HasRule, IsConnNumber, IsNode, IsNodeEnv, IsReached, Machine, Move, NodeEnv, NodeGets, NodePart, NodeRules, Offered, Rules, Seen, Setting, Tagged, Untouched, awaits_ack, config_check, conn, epoch_in, file_at, grown, here, is_gone, machine_start, machine_step, node_rule, node_saying, offer_answer, setting, tale_at, with_leaving, without}
 use Rattle.lard_law_view.proofs.EachClient.{each-client}
 use Rattle.lard_law_view.proofs.EachFront.{each-front}
 use Rattle.lard_base.proofs.Usable.{usable}
@@ -145,7 +145,7 @@ module _ (config : Config) (files : List (List ℕ × List ℕ)) (checked : conf
     names = subst (λ (c : Config). Names (IsNode c.nodes) (conn m q) (conn n q)) counted.config_is (step-names m n counted.sound e after is on.view.told q)
 
     goes-so : view.GoesBy All (conn m q) (conn n q)
-    goes-so = filling (conn m q) (conn n q) (step-fills m n e after is on.view.told q) names (goes-on config files (Moves N (setting config files)) (rules N (setting config files)) m n e on rule is q)
+    goes-so = filling (conn m q) (conn n q) (step-fills m n e after is on.view.told q) names (goes-on config files (Moves N (setting config files)) (λ l. rules N (with_leaving (setting config files) l)) m n e on rule is q)
 
     stays : Inv (conn n q)
     stays = gone Inv All (conn m q) (conn n q) (known q)

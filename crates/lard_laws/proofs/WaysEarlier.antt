@@ -1,6 +1,6 @@
 -- So it is in every run: each content that is served was there before.
 use Rattle.std.proofs.Common.{◌≡◌, ℕ, Bool, true, false, cond, List, [], ◌∷◌, ◌++◌, map, Option, Some, None, Ok, is_some, refl, sym, ap, ◌∙◌, subst, inl, inr, ⊎_elim, append_assoc, append-nil}
-use Rattle.lard_law_view.specs.Prelude.{Came, Client, ClientRules, Completed, Config, Conn, Content, EachRow, Front, FrontRules, Has, IsLaw, IsNodeEnv, IsReached, Letter, Machine, MayRestOn, Move, Node, NodeEnv, NodeGets, NodePart, NodeRules, OfEach, Place, Rec, Row, Rules, Seen, Setting, client_begins, conn, decoded_message, front_does, front_rule, grown, named_records, node_does, nothing_said, own, packet_seen, plain, reads_first, rows_of, seen_in, setting, stands, timer_rows, whose}
+use Rattle.lard_law_view.specs.Prelude.{Came, Client, ClientRules, Completed, Config, Conn, Content, EachRow, Front, FrontRules, Has, IsLaw, IsNodeEnv, IsReached, Letter, Machine, MayRestOn, Move, Node, NodeEnv, NodeGets, NodePart, NodeRules, OfEach, Place, Rec, Row, Rules, Seen, Setting, client_begins, conn, decoded_message, front_does, front_rule, grown, named_records, node_does, nothing_said, own, packet_seen, plain, reads_first, rows_of, seen_in, setting, stands, timer_rows, whose, with_leaving}
 use Rattle.lard_law_view.proofs.EachFront.{each-front, of-front}
 use Rattle.lard_law_view.proofs.EachClient.{client_goes, each-client, of-client}
 use Rattle.lard_law_view.proofs.EachNode.{Answers, Aside, Brings, NodeComes, Queues, aside_said, aside_seen, each-node, node_goes}
@@ -317,7 +317,7 @@ nobody J _ e = tt
 
 module _ (config : Config) (files : List (List ℕ × List ℕ)) where
   pub each-served : OfEach config files (IsServedSo (setting config files))
-  each-served = carried config files (Anything (setting config files)) (IsServedSo (setting config files)) (served-law (setting config files)) (λ m r q. tt)
+  each-served = carried config files (Anything (setting config files)) (IsServedSo (setting config files)) (λ l. served-law (with_leaving (setting config files) l)) (λ m r q. tt)
 
   each : (m : Machine) → IsReached config files m → (q : ℕ) → EachRow (MayFollow q) [] (conn m q).seen
   unfolding conn

@@ -1,6 +1,6 @@
 -- The paths of each Ask go on from those that were assigned, in every run.
 use Rattle.std.proofs.Common.{◌≡◌, ◌≤◌, ◌^◌, ℕ, false, List, [], Some, None, ap, ◌∙◌, sym, subst}
-use Rattle.lard_law_view.specs.Prelude.{Config, Conn, EachRow, FilesAt, Front, Guarded, IsGuardedLaw, IsReached, Machine, MayRestOn, Move, Node, OfEach, Place, Rec, Seen, Setting, Tale, Untouched, WhileUntouched, conn, file_at, grown, is_touched, own, plain, seen_in, setting, tale_at, tale_of, whose}
+use Rattle.lard_law_view.specs.Prelude.{Config, Conn, EachRow, FilesAt, Front, Guarded, IsGuardedLaw, IsReached, Machine, MayRestOn, Move, Node, OfEach, Place, Rec, Seen, Setting, Tale, Untouched, WhileUntouched, conn, file_at, grown, is_touched, own, plain, seen_in, setting, tale_at, tale_of, whose, with_leaving}
 use Rattle.lard_law_connections.proofs.BytesLaw.{Helps}
 use Rattle.lard_law_connections.proofs.BytesRuns.{states-truthful}
 use Rattle.lard_law_connections.proofs.OffersSent.{AreSeen, grown-seen, own-sends}
@@ -81,7 +81,8 @@ module _ (config : Config) (files : List (List ℕ × List ℕ)) (small : config
   k = setting config files
 
   guarded-names : OfEach config files (Guarded AreSeen (Names (file_at files)))
-  guarded-names = carried config files (Given k small) (Guarded AreSeen (Names (file_at files))) (guarded-law k (Given k small) AreSeen (Names (file_at files)) (names-law k small))
+  guarded-names = carried config files (Given k small) (Guarded AreSeen (Names (file_at files)))
+      (λ l. guarded-law (with_leaving k l) (Given k small) AreSeen (Names (file_at files)) (names-law (with_leaving k l) small))
       (λ m r q. ((each-placed config files m r q, states-truthful config files small m r q), (each-guarded config files small m r q).0))
 
   each : (m : Machine) → IsReached config files m → (q : ℕ) → EachRow (mine (file_at files) q) [] (conn m q).seen

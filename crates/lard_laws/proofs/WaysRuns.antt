@@ -1,6 +1,6 @@
 -- Each rule leaves a connection on its way, so it is in every run; and what its records say the journal says.
 use Rattle.std.proofs.Common.{◌≡◌, ◌≤◌, ◌^◌, ℕ, false, List, [], Some, None, refl, sym, ap, ◌∙◌, subst}
-use Rattle.lard_law_view.specs.Prelude.{Config, Conn, EachRow, FilesAt, Guarded, IsGuardedLaw, IsReached, Machine, MayRestOn, Move, OfEach, Rec, Seen, Setting, Tale, Untouched, UntouchedRules, WhileUntouched, conn, file_at, grown, is_touched, own, plain, seen_in, setting, tale_at, tale_of, whose}
+use Rattle.lard_law_view.specs.Prelude.{Config, Conn, EachRow, FilesAt, Guarded, IsGuardedLaw, IsReached, Machine, MayRestOn, Move, OfEach, Rec, Seen, Setting, Tale, Untouched, UntouchedRules, WhileUntouched, conn, file_at, grown, is_touched, own, plain, seen_in, setting, tale_at, tale_of, whose, with_leaving}
 use Rattle.lard_law_connections.specs.BytesAgreement.{IsTruthful}
 use Rattle.lard_law_connections.proofs.BytesLaw.{Helps}
 use Rattle.lard_law_connections.proofs.BytesOwners.{Known, Knows, known}
@@ -129,7 +129,7 @@ module _ (config : Config) (files : List (List ℕ × List ℕ)) (small : config
 
   pub each-guarded : OfEach config files (Guarded (GoesItsWay (file_at files)) (λ c. Mine (file_at files) c))
   each-guarded = carried config files (Given k small) (Guarded (GoesItsWay (file_at files)) (λ c. Mine (file_at files) c))
-      (guarded-law k (Given k small) (GoesItsWay (file_at files)) (λ c. Mine (file_at files) c) (ways-law k small))
+      (λ l. guarded-law (with_leaving k l) (Given k small) (GoesItsWay (file_at files)) (λ c. Mine (file_at files) c) (ways-law (with_leaving k l) small))
       (λ m r q. (each-placed config files m r q, states-truthful config files small m r q))
 
   each : (m : Machine) → IsReached config files m → (q : ℕ) → EachRow (seen_so (file_at files) q) [] (conn m q).seen

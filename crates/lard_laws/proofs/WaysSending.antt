@@ -1,7 +1,7 @@
 -- Which contents each rule sends of one connection: those of a Fetch that came, and of a job that was read for another node.
 use Rattle.std.proofs.Common.{◌≡◌, ℕ, List, [], ◌∷◌, refl, subst, inl, inr}
 use Rattle.std.specs.Prelude.{◌⊎◌, Some}
-use Rattle.lard_law_view.specs.Prelude.{Client, ClientRules, Config, Conn, Front, FrontRules, IsLaw, MayRestOn, Move, Node, NodeRules, OfEach, Place, Rules, Seen, Setting, SpellsMessage, content_bytes, front_does, front_rule, grown, node_does, node_rule, nothing_said, packet_seen, setting, stands}
+use Rattle.lard_law_view.specs.Prelude.{Client, ClientRules, Config, Conn, Front, FrontRules, IsLaw, MayRestOn, Move, Node, NodeRules, OfEach, Place, Rules, Seen, Setting, SpellsMessage, content_bytes, front_does, front_rule, grown, node_does, node_rule, nothing_said, packet_seen, setting, stands, with_leaving}
 use Rattle.lard_law_view.proofs.EachFront.{each-front}
 use Rattle.lard_law_view.proofs.EachClient.{each-client}
 use Rattle.lard_law_view.proofs.Carried.{carried}
@@ -125,4 +125,4 @@ module _ (k : Setting) where
   holds-law = record { begins = λ c n. (tt, tt); moves = weaker k (Owes k) (λ x v. MayRestOn Anything x → HoldsNone x → HoldsNone (grown x v)) (λ x v h may holds. (h holds).0) rules }
 
 pub each-holds : (config : Config) (files : List (List ℕ × List ℕ)) → OfEach config files HoldsNone
-each-holds config files = carried config files (Anything (setting config files)) HoldsNone (holds-law (setting config files)) (λ m r q. tt)
+each-holds config files = carried config files (Anything (setting config files)) HoldsNone (λ l. holds-law (with_leaving (setting config files) l)) (λ m r q. tt)

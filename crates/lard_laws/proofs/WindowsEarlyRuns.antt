@@ -1,6 +1,6 @@
 -- Of an open client which is not established nothing is known but its SYN, in every run.
 use Rattle.std.proofs.Common.{◌≡◌, ◌<◌, ◌^◌, ℕ, Bool, true, false, List, [], ◌∷◌, Option, Some, None, refl, sym, ap, ◌∙◌, arith}
-use Rattle.lard_law_view.specs.Prelude.{Client, Conn, FilesAt, Front, IsReply, Letter, Node, Place, Said, Setting, Station, Talk, ToClient, Untouched, decoded, double_word_at, seq_add, seq_offset, setting, spelled}
+use Rattle.lard_law_view.specs.Prelude.{Client, Conn, FilesAt, Front, IsReply, Letter, Node, Place, Said, Setting, Station, Talk, ToClient, Untouched, decoded, double_word_at, seq_add, seq_offset, setting, spelled, with_leaving}
 use Rattle.lard_law_connections.specs.BytesAgreement.{IsFair, IsFairOn, IsOpen, IsTruthful}
 use Rattle.lard_law_connections.proofs.BytesClientMoves.{open-at}
 use Rattle.lard_law_connections.proofs.BytesRuns.{states-truthful}
@@ -73,5 +73,5 @@ pub stays-early : OpenClientsSentTheirSyn
 stays-early config files small m r q untouched =
     let k : Setting = setting config files in
     by-truth k.files _ (states-truthful config files small m r q untouched)
-    (carried config files (Given k small) (Untouched IsEarlyIn) (untouched-law k (Given k small) IsEarlyIn (early-law k small))
+    (carried config files (Given k small) (Untouched IsEarlyIn) (λ l. untouched-law (with_leaving k l) (Given k small) IsEarlyIn (early-law (with_leaving k l) small))
     (λ m r q. (each-placed config files m r q, (states-truthful config files small m r q, (words-fit config files small m r q, clients-start config files small m r q)))) m r q untouched)

@@ -1,6 +1,6 @@
 -- What the front end forwards was a packet of the client's.
 use Rattle.std.proofs.Common.{◌≡◌, ℕ, List, [], ◌∷◌, ◌++◌, map, Option, Some, None, Ok, IfSome, refl, sym, ap, ◌∙◌, subst}
-use Rattle.lard_law_view.specs.Prelude.{AreSent, Body, Client, ClientRules, Conn, ControlBlock, Front, FrontConn, FrontDeed, FrontEnv, FrontFires, FrontGets, FrontHears, FrontPart, FrontRow, FrontRules, Has, IsConnSound, IsLaw, Kept, Letter, MayRestOn, Message, Move, Node, NodeRules, Place, Rules, Said, Seen, ServeEnv, Setting, client_does, client_injects, decoded_message, front_does, front_rule, grown, inject_seen, kind_of, last_words, letter, letters_of, node_does, nothing_said, packet_seen, parts_of, sent_of, setting, stands}
+use Rattle.lard_law_view.specs.Prelude.{AreSent, Body, Client, ClientRules, Conn, ControlBlock, Front, FrontConn, FrontDeed, FrontEnv, FrontFires, FrontGets, FrontHears, FrontPart, FrontRow, FrontRules, Has, IsConnSound, IsLaw, Kept, Letter, MayRestOn, Message, Move, Node, NodeRules, Place, Rules, Said, Seen, ServeEnv, Setting, client_does, client_injects, decoded_message, front_does, front_rule, grown, inject_seen, kind_of, last_words, letter, letters_of, node_does, nothing_said, packet_seen, parts_of, sent_of, setting, stands, with_leaving}
 use Rattle.lard_law_connections.proofs.BytesMessages.{forwards-read}
 use Rattle.lard_law_connections.proofs.PlacesFrontRules.{has-each}
 use Rattle.lard_law_connections.proofs.PlacesHeads.{kinds-same}
@@ -191,4 +191,4 @@ module _ (k : Setting) where
 
 -- In every state that events lead to.
 pub forwards-were : ForwardsComeFromClients
-forwards-were config files = carried config files Nothing ForwardsWere (forwards-law (setting config files)) (λ m r q. tt)
+forwards-were config files = carried config files Nothing ForwardsWere (λ l. forwards-law (with_leaving (setting config files) l)) (λ m r q. tt)

@@ -1,7 +1,7 @@
 -- Each segment of the cluster has ACK, or it is the refusal of a segment of the client's.
 use Rattle.std.proofs.Common.{◌≡◌, ⊎_elim, ◌≤◌, ◌<◌, ◌^◌, ℕ, Bool, true, false, cond, List, [], ◌∷◌, Option, Some, None, Ok, refl, sym, ap, ◌∙◌, subst, arith}
 use Rattle.std.specs.Prelude.{slice_index}
-use Rattle.lard_law_view.specs.Prelude.{Client, Conn, FilesAt, Flags, Front, Has, IsReply, IsSendable, Letter, Node, Place, Said, Setting, Station, Talk, ToClient, ToCluster, decoded, flags_byte, refusal, seg_len, seq_add, setting, spelled}
+use Rattle.lard_law_view.specs.Prelude.{Client, Conn, FilesAt, Flags, Front, Has, IsReply, IsSendable, Letter, Node, Place, Said, Setting, Station, Talk, ToClient, ToCluster, decoded, flags_byte, refusal, seg_len, seq_add, setting, spelled, with_leaving}
 use Rattle.lard_laws.specs.Acks.{LetterActs, OpenActs, bounds_of}
 use Rattle.lard_law_connections.specs.BytesAgreement.{ConnAgrees, IsFair, IsFairOn, IsInner, IsNodePlace, IsOpen, IsTruthful, IsConnUnopened}
 use Rattle.lard_law_connections.proofs.BytesClientMoves.{has-fair, open-at}
@@ -94,7 +94,7 @@ by-truth files x truth h = go x.part.station refl where
 pub refusals-answer : RefusalsAnswer
 refusals-answer config files small m r q untouched =
     let k : Setting = setting config files in
-    by-truth k.files _ (states-truthful config files small m r q untouched) (carried config files Nothing RepliesAre (replies-law k) (λ n s p. tt) m r q)
+    by-truth k.files _ (states-truthful config files small m r q untouched) (carried config files Nothing RepliesAre (λ l. replies-law (with_leaving k l)) (λ n s p. tt) m r q)
 
 -- ---- by the law of acknowledgements
 

@@ -4,7 +4,7 @@ use Rattle.lard_law_connections.specs.BytesAgreement.{IsTruthful}
 use Rattle.lard_law_connections.proofs.BytesRuns.{states-truthful}
 use Rattle.lard_law_connections.proofs.PlacesRuns.{each-placed}
 use Rattle.lard_law_connections.proofs.PlacesTurns.{IsPlaced}
-use Rattle.lard_law_view.specs.Prelude.{Conn, IsUntouchedLaw, MayRestOn, Move, Setting, Untouched, UntouchedRules, grown, nothing_said, packet_seen, setting, tale_at}
+use Rattle.lard_law_view.specs.Prelude.{Conn, IsUntouchedLaw, MayRestOn, Move, Setting, Untouched, UntouchedRules, grown, nothing_said, packet_seen, setting, tale_at, with_leaving}
 use Rattle.lard_law_view.proofs.Carried.{carried}
 use Rattle.lard_law_view.proofs.Fine.{IsFine, fine}
 use Rattle.lard_law_view.proofs.Guarded.{untouched-both, untouched-law, untouched-weaker}
@@ -53,4 +53,5 @@ module _ (k : Setting) (small : k.stream ≤ 2 ^ 30) where
 pub windows-reach : WindowsReach
 windows-reach config files small =
     let k : Setting = setting config files in
-    carried config files (Given k small) (Untouched IsReaching) (untouched-law k (Given k small) IsReaching (reaching-law k small)) (λ m r q. (each-placed config files m r q, states-truthful config files small m r q))
+    carried config files (Given k small) (Untouched IsReaching) (λ l. untouched-law (with_leaving k l) (Given k small) IsReaching (reaching-law (with_leaving k l) small))
+    (λ m r q. (each-placed config files m r q, states-truthful config files small m r q))
