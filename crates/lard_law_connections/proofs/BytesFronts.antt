@@ -161,7 +161,7 @@ module _ (env : FrontEnv) (w out : Stream) (vs : List Verdict) (was_reset : Bool
         let so : So env.serve w out vs start [] = begins-so env.serve w out vs talk.says [] (listening s env.iss) 0 (rec.Took place.Front env.serve.c (record { 0 = 1 }) ∷ []) (sym (ap length none)) between
         (record { wnd = word.sendable.wnd_fits; wl1 = word.sendable.seq_fits; wl2 = number }) none-read (record { each = (tt, tt); served = omega arith; size = omega arith; unless_ended = inr refl; serve = λ t told. ((λ J e. tt), tt) }) in
         holds-keep p row (front_rest None) (spoken env.serve start []) (spoken-ends env.serve w out vs was_reset start [] so [] so.reading tt)
-        (spoken-serves env.serve start [] (record { counted = omega arith; asked = omega arith; most = omega arith; sent = omega arith }))
+        (spoken-serves env.serve start [] (record { asked = omega arith; most = omega arith; sent = omega arith }))
 
     -- ---- a connection that ended
 
