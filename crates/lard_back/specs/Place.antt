@@ -12,14 +12,14 @@ use Rattle.lard_back.specs.Sound.{EndsSound, IsNodeSound}
 use Rattle.lard_back.specs.Timers.{flag_changes, timer_flags}
 use Rattle.lard_base.specs.declared.place.Place.{Place}
 use Rattle.lard_base.specs.declared.place.Place.TheVariants.{Node}
-use Rattle.lard_cache.specs.Recency.{Recency, has_path}
+use Rattle.lard_cache.specs.Recency.{has_path}
 use Rattle.lard_endpoint.specs.Control.{ControlBlock}
 use Rattle.lard_files.specs.Files.{file_at}
 use Rattle.lard_rules.specs.declared.node.NodeState.{NodeState}
 use Rattle.lard_rules.specs.declared.node.NodeTurn.{NodeTurn}
 use Rattle.lard_rules.specs.declared.stay.Stay.{Stay}
 use Rattle.lard_rules.specs.Node.{NodePart, here, kept_after, turn_by}
-use Rattle.lard_rules.specs.NodePlace.{NodeSetting, node_part, node_put, stores_told}
+use Rattle.lard_rules.specs.NodePlace.{NodeSetting, leaves, node_part, node_put, stores_told}
 use Rattle.lard_rules.specs.Stay.{NodeEnv, Work}
 use Rattle.lard_rules.specs.declared.places.Out.{Out}
 use Rattle.lard_rules.specs.declared.places.Ending.{Ending}
@@ -32,17 +32,15 @@ abbrev pub node_setting_seen : Setting → NodeSetting
 node_setting_seen k = record { n = k.n; files = file_at k.files.now; stream = k.stream }
 
 -- what a stay rests on
-abbrev pub env_at : NodeSetting → Recency → ℕ → At → NodeEnv
-env_at k cache queue at = record {
+abbrev pub node_env_of : NodeSetting → NodeState → At → NodeEnv
+node_env_of k s at = record {
   serve = record { place = Node at.n; c = at.c; files = k.files; stream = k.stream };
   n = at.n;
   epoch = at.epoch.0;
-  cached = has_path cache.entries;
-  queue = queue;
+  cached = has_path s.cache.entries;
+  queue = length s.disk;
+  leaving = leaves s;
 }
-
-abbrev pub node_env_of : NodeSetting → NodeState → At → NodeEnv
-node_env_of k s at = env_at k s.cache (length s.disk) at
 
 abbrev pub out_at : At → Flags → NodePart → NodeTurn → Out
 out_at at was q t = record {
