@@ -4,8 +4,8 @@ use Rattle.lard_law_view.specs.Prelude.{Came, Client, Conn, EachRow, FilesAt, Fr
 use Rattle.lard_law_connections.proofs.BytesLaw.{IsHead, heads-stand}
 use Rattle.lard_law_connections.proofs.BytesTold.{Bytes, bytes_of, move-bytes}
 use Rattle.lard_law_connections.specs.Offers.{BodyCarries}
-use Rattle.lard_law_connections.proofs.OffersRules.{SaysAt, SaysTruth}
-use Rattle.lard_law_connections.proofs.OffersSaying.{IsToClient, MayGo}
+use Rattle.lard_law_connections.proofs.OffersRules.{SaysTruth}
+use Rattle.lard_law_connections.proofs.OffersSaying.{AllMayGo, GoesFirst, MayGo}
 use Rattle.lard_law_connections.proofs.OffersSent.{AreSeen, SentSeen, seen-before}
 use Rattle.lard_law_view.specs.Carry.{TellsBy}
 use Rattle.lard_law_view.specs.View.{sending}
@@ -19,10 +19,14 @@ use Rattle.lard_law_view.proofs.RecordKinds.{IsUnsent}
 
 -- ---- what may be seen
 
--- what goes to a node, and did not go there before, carries what is told
+-- what did not go there before carries what is told
+abbrev pub FirstMine : FilesAt → ℕ → List Seen → Place → Place → List ℕ → Type 0
+FirstMine files c past from to bytes = (SentSeen from to bytes past → ⊥) → (J : List Rec) → tale J c ≡ tale_of c past → (m : Message) → decoded_message bytes ≡ Ok m → BodyCarries files J c m.body
+
+-- from the front end to a node, and from a node to the front end
 abbrev pub MineTo : FilesAt → ℕ → List Seen → Place → Place → List ℕ → Type 0
-MineTo files c past Front (Node n) bytes =
-    (SentSeen Front (Node n) bytes past → ⊥) → (J : List Rec) → tale J c ≡ tale_of c past → (m : Message) → decoded_message bytes ≡ Ok m → BodyCarries files J c m.body
+MineTo files c past Front (Node n) bytes = FirstMine files c past Front (Node n) bytes
+MineTo files c past (Node n) Front bytes = FirstMine files c past (Node n) Front bytes
 MineTo files c past _ _ bytes = Unit {0}
 
 abbrev pub Mine : FilesAt → ℕ → List Seen → Rec → Type 0
@@ -30,13 +34,9 @@ Mine files c past (rec.Sent k from to bytes) = MineTo files c past from to bytes
 Mine files c past _ = Unit {0}
 
 module _ (files : FilesAt) (x : Conn) where
-  -- the same of a move: what was sent before the move, or carries what is told
-  abbrev GoesFrom : Bytes → Place → Place → List ℕ → Type 0
-  GoesFrom b Front to bytes = MayGo files x b to bytes
-  GoesFrom b _ to bytes = Unit {0}
-
+  -- the same of a move: it was sent before the move, or carries what is told
   abbrev MayRow : Tale → Rec → Type 0
-  MayRow t (rec.Sent k from to bytes) = GoesFrom (bytes_of t) from to bytes
+  MayRow t (rec.Sent k from to bytes) = MayGo files x (bytes_of t) from to bytes
   MayRow t _ = Unit {0}
 
   abbrev TellsRows : Tale → List Rec → Type 0
@@ -54,23 +54,9 @@ module _ (files : FilesAt) (x : Conn) where
 
   -- ---- packets
 
-  abbrev GoAt : Bytes → Place → List (Place × List ℕ) → Type 0
-  GoAt b Front ss = Each (λ s. MayGo files x b s.0 s.1) ss
-  GoAt b _ ss = Unit {0}
-
-  sent-may : (place : Place) (t : Tale) (ss : List (Place × List ℕ)) → GoAt (bytes_of t) place ss → TellsRows t (map (sending place) ss)
+  sent-may : (place : Place) (t : Tale) (ss : List (Place × List ℕ)) → AllMayGo files x (bytes_of t) place ss → TellsRows t (map (sending place) ss)
   sent-may place t [] h = tt
-  sent-may Front t (s ∷ ss) h = (h.0, sent-may Front (tale_step x.c t (sending Front s)) ss h.1)
-  sent-may (Node n) t (s ∷ ss) h = (tt, sent-may (Node n) (tale_step x.c t (sending (Node n) s)) ss tt)
-  sent-may (Client d) t (s ∷ ss) h = (tt, sent-may (Client d) (tale_step x.c t (sending (Client d) s)) ss tt)
-
-  to-clients : (b : Bytes) (ss : List (Place × List ℕ)) → Each (λ s. IsToClient s.0) ss → Each (λ s. MayGo files x b s.0 s.1) ss
-  to-clients b [] h = tt
-  to-clients b (s ∷ ss) h = (one s.0 h.0, to-clients b ss h.1) where
-    one : (to : Place) → IsToClient to → MayGo files x b to s.1
-    one (Client d) i = tt
-    one Front i = absurd i
-    one (Node n) i = absurd i
+  sent-may place t (s ∷ ss) h = (h.0, sent-may place (tale_step x.c t (sending place s)) ss h.1)
 
   -- ---- a move
 
@@ -78,25 +64,15 @@ module _ (files : FilesAt) (x : Conn) where
     abbrev noted : Tale
     noted = told_on x.c (tale_before x v) v.said.notes
 
-    segments-go : (place : Place) → SaysAt files x v place → GoAt (bytes_of noted) place v.said.segments
-    segments-go Front h = to-clients (bytes_of noted) v.said.segments h.0
-    segments-go (Node n) h = tt
-    segments-go (Client d) h = tt
-
-    messages-go : (place : Place) → SaysAt files x v place → GoAt (bytes_of noted) place v.said.messages
-    messages-go Front h = h.1
-    messages-go (Node n) h = tt
-    messages-go (Client d) h = tt
-
     -- what is given up tells nothing of bytes
     same-bytes : bytes_of noted ≡ bytes_of (tale_said x v (tale_before x v))
     same-bytes = sym (sym (ap bytes_of (grown-tale x v own.messages)) ∙ move-bytes x v own.messages own.gave)
 
     pub move-may : EachRow (MayBeSeen MayRow x.c) x.seen (seen_in x v)
     move-may = move-lawful MayRow x v (heads-may x.seen v.heads heads) (unsents-may (tale_before x v) v.said.notes (notes-unsent v.place x.c v.said.notes own.notes))
-        (sent-may v.place noted v.said.segments (segments-go v.place says))
+        (sent-may v.place noted v.said.segments says.0)
         (unsents-may _ v.said.gave (gaves-unsent v.place x.c v.said.gave own.gave))
-        (sent-may v.place (tale_said x v (tale_before x v)) v.said.messages (subst (λ (b : Bytes). GoAt b v.place v.said.messages) same-bytes (messages-go v.place says)))
+        (sent-may v.place (tale_said x v (tale_before x v)) v.said.messages (subst (λ (b : Bytes). AllMayGo files x b v.place v.said.messages) same-bytes says.1))
         (unsents-may _ (timer_rows v.place x.c x.part v.part) (timers-unsent v.place x.c x.part v.part))
 
   -- ---- what was sent before the move was seen
@@ -105,13 +81,18 @@ module _ (files : FilesAt) (x : Conn) where
     abbrev Holds : List Seen → Type 0
     Holds past = (from to : Place) (bytes : List ℕ) → SentSeen from to bytes x.seen → SentSeen from to bytes past
 
-    row-mine : (past : List Seen) → Holds past → (r : Rec) → MayRow (tale_of x.c past) r → Mine files x.c past r
-    row-mine past all (rec.Sent k Front (Node n) bytes) h = λ new J is m d. ⊎_elim
-        (λ (was : Was x Front (Node n) bytes). absurd (new (all Front (Node n) bytes (seen (record { from = Front; to = Node n; bytes = bytes }) was))))
+    first-mine : (past : List Seen) → Holds past → (from to : Place) (bytes : List ℕ) → GoesFirst files x (bytes_of (tale_of x.c past)) from to bytes → FirstMine files x.c past from to bytes
+    first-mine past all from to bytes h new J is m d = ⊎_elim
+        (λ (was : Was x from to bytes). absurd (new (all from to bytes (seen (record { from = from; to = to; bytes = bytes }) was))))
         (λ (f : (J : List Rec) → bytes_of (tale J x.c) ≡ bytes_of (tale_of x.c past) → (m : Message) → decoded_message bytes ≡ Ok m → BodyCarries files J x.c m.body). f J (ap bytes_of is) m d) h
+
+    row-mine : (past : List Seen) → Holds past → (r : Rec) → MayRow (tale_of x.c past) r → Mine files x.c past r
+    row-mine past all (rec.Sent k Front (Node n) bytes) h = first-mine past all Front (Node n) bytes h
     row-mine past all (rec.Sent k Front Front bytes) h = tt
     row-mine past all (rec.Sent k Front (Client d) bytes) h = tt
-    row-mine past all (rec.Sent k (Node n) to bytes) h = tt
+    row-mine past all (rec.Sent k (Node n) Front bytes) h = first-mine past all (Node n) Front bytes h
+    row-mine past all (rec.Sent k (Node n) (Node m) bytes) h = tt
+    row-mine past all (rec.Sent k (Node n) (Client d) bytes) h = tt
     row-mine past all (rec.Sent k (Client d) to bytes) h = tt
     row-mine past all _ h = tt
 

@@ -1,4 +1,5 @@
--- What each rule says to nodes, where its connection agrees.
+-- What each rule of the front end says, where its connection agrees.
+use Rattle.lard_law_connections.proofs.PlacesTurns.{IsPlaced}
 use Rattle.std.proofs.Common.{◌≡◌, ◌≤◌, ◌^◌, ℕ, List, [], ◌∷◌, map, Some, refl, sym, subst, inl}
 use Rattle.std.specs.List.{fold}
 use Rattle.lard_law_view.specs.Prelude.{AreSent, Client, Conn, FilesAt, Front, FrontConn, FrontDeed, FrontEnv, FrontGets, FrontPart, FrontRow, FrontRules, IsConnNumber, IsConnSound, IsFrontEnv, Kept, Move, Node, Place, Said, Seen, Setting, Station, Talk, Verdict, Was, fires_at, front_begun, front_does, front_rest, front_rule, hears_at, holds, placed, seen_step, sent_of, serving, serving_settled, tale_at, tale_step, told_on}
@@ -10,7 +11,7 @@ use Rattle.lard_law_connections.proofs.BytesFrontMoves.{rule-agrees, talk-of}
 use Rattle.lard_law_connections.proofs.BytesFronts.{IsOurs, RowIsOurs}
 use Rattle.lard_law_connections.proofs.BytesTold.{Bytes, bytes_of}
 use Rattle.lard_law_connections.proofs.OffersParts.{Tells}
-use Rattle.lard_law_connections.proofs.OffersSaying.{AreSaid, MayGo, handed-says, other-goes, replies-to}
+use Rattle.lard_law_connections.proofs.OffersSaying.{AllMayGo, AreSaid, MayGo, handed-says, other-goes, replies-go}
 use Rattle.lard_law_view.proofs.Frames.{Owed}
 use Rattle.lard_law_view.proofs.Rows.{tale_before}
 use Rattle.lard_dispatch.specs.declared.dispatch.First.TheVariants as first
@@ -20,15 +21,11 @@ use Rattle.lard_history.proofs.Each.{Each}
 use Rattle.lard_message.specs.declared.kind.Kind.TheVariants as kind
 use Rattle.lard_message.specs.declared.message.Body.TheVariants as body
 use Rattle.lard_law_view.proofs.EachFront.{FrontComes, admission, each-front, of-front}
-use Rattle.lard_rules.proofs.FrontCases.{KeptByFront, KeptBySegment, IsInStage, front-keeps, hands_off}
+use Rattle.lard_rules.proofs.FrontCases.{IsInStage, KeptByFront, KeptBySegment, front-keeps, hands_off}
 
--- what a move says, if it is the front end's
-abbrev pub SaysAt : FilesAt → Conn → Move → Place → Type 0
-SaysAt files x v Front = AreSaid files x (bytes_of (told_on x.c (tale_before x v) v.said.notes)) v.said.segments v.said.messages
-SaysAt files x v _ = Unit {0}
-
+-- what a move says
 abbrev pub SaysTruth : FilesAt → Conn → Move → Type 0
-SaysTruth files x v = SaysAt files x v v.place
+SaysTruth files x v = AreSaid files x (bytes_of (told_on x.c (tale_before x v) v.said.notes)) v.place v.said.segments v.said.messages
 
 -- ---- the front end
 
@@ -61,8 +58,8 @@ module _ (k : Setting) (small : k.stream ≤ 2 ^ 30) (x : Conn) (number : IsConn
 
     mute-speaks : (d : FrontDeed) → IsMute d → Keeps d → Speaks d
     mute-speaks Drops m t = (tt, tt)
-    mute-speaks (Says turn) m t = (replies-to x.c l.w l.out l.was_reset turn.segments t.1, subst (Each _) (sym m) tt)
-    mute-speaks (Does did) m t = (replies-to x.c l.w t.out_after _ did.turn.segments t.sent, subst (Each _) (sym m) tt)
+    mute-speaks (Says turn) m t = (replies-go k.files x _ x.c l.w l.out l.was_reset turn.segments t.1, subst (Each _) (sym m) tt)
+    mute-speaks (Does did) m t = (replies-go k.files x _ x.c l.w t.out_after _ did.turn.segments t.sent, subst (Each _) (sym m) tt)
 
     -- what it does agrees where the connection is the front end's
     abbrev pub Tells_so : FrontDeed → Type 0
@@ -85,25 +82,25 @@ module _ (k : Setting) (small : k.stream ≤ 2 ^ 30) (x : Conn) (number : IsConn
             handed-says k.files x number l.w l.out l.vs l.was_reset talk.stream (tale_before x (front_does x heads d)) (told d) env row w path choice (keeps (ours row (stage.Held b) at tt));
         waits = λ row b w path at r is keeps. mute-speaks (Does (placed env p row (front_rest p.rest) w path first.Waits)) refl (keeps (ours row (stage.Held b) at tt));
         stays = λ row b at keeps. mute-speaks (hears_at env p row bytes sd (stage.Waiting b)) refl (keeps (ours row (stage.Waiting b) at tt));
-        forwards = λ row n d at keeps. (tt, (other-goes k.files x _ n env.serve.c d.0 (body.Forward bytes) (λ e. let no : kind.Forward ≡ kind.Offer = e in absurd cc), tt));
+        forwards = λ row n d at keeps. (tt, (other-goes k.files x _ n env.serve.c d.0 (body.Forward bytes) (λ none. none), tt));
         words = λ row last at keeps. mute-speaks (hears_at env p row bytes sd (stage.Closed last)) refl (keeps (ours row (stage.Closed last) at tt));
       }
 
     -- ---- messages: no Offer is an answer to them, and what is sent again was sent before
 
-    again-goes : (b : Bytes) (ks : List Kept) → AreSent x Front ks → Each (λ (y : Place × List ℕ). MayGo k.files x b y.0 y.1) (map sent_of ks)
+    again-goes : (b : Bytes) (ks : List Kept) → AreSent x Front ks → AllMayGo k.files x b Front (map sent_of ks)
     again-goes b [] h = tt
     again-goes b (q ∷ ks) h = (one q.to h.0.1, again-goes b ks h.1) where
-      one : (to : Place) → Was x Front to q.bytes → MayGo k.files x b to q.bytes
+      one : (to : Place) → Was x Front to q.bytes → MayGo k.files x b Front to q.bytes
       one (Node n) was = inl was
       one Front was = tt
       one (Client d) was = tt
 
-    tag-goes : (b : Bytes) (n c e number : ℕ) (nodes : List ℕ) → MayGo k.files x b (Node n) (message c e (body.Tag number nodes))
-    tag-goes b n c e number nodes = other-goes k.files x b n c e (body.Tag number nodes) (λ f. let no : kind.Tag ≡ kind.Offer = f in absurd cc)
+    tag-goes : (b : Bytes) (n c e number : ℕ) (nodes : List ℕ) → MayGo k.files x b Front (Node n) (message c e (body.Tag number nodes))
+    tag-goes b n c e number nodes = other-goes k.files x b n c e (body.Tag number nodes) (λ none. none)
 
-    ack-goes : (b : Bytes) (n c e : ℕ) → MayGo k.files x b (Node n) (message c e body.EndedAck)
-    ack-goes b n c e = other-goes k.files x b n c e body.EndedAck (λ f. let no : kind.EndedAck ≡ kind.Offer = f in absurd cc)
+    ack-goes : (b : Bytes) (n c e : ℕ) → MayGo k.files x b Front (Node n) (message c e body.EndedAck)
+    ack-goes b n c e = other-goes k.files x b n c e body.EndedAck (λ none. none)
 
     -- ---- whatever comes
 
@@ -133,7 +130,7 @@ module _ (k : Setting) (small : k.stream ≤ 2 ^ 30) (x : Conn) (number : IsConn
 
 module _ (k : Setting) (small : k.stream ≤ 2 ^ 30) where
   abbrev pub Wants : Conn → Move → Type 0
-  Wants x v = IsTruthful k.files x → SaysTruth k.files x v
+  Wants x v = IsPlaced x → IsTruthful k.files x → SaysTruth k.files x v
 
   opened-says : (x : Conn) (s : Station) (env : FrontEnv) (heads : List Seen) (g : FrontGets) → x.part.station ≡ Some s → env.iss ≡ s.iss
       → IsFrontEnv k x.c env → FrontComes x env heads g → IsTruthful k.files x → IsConnNumber x.c → IsConnSound x → SaysTruth k.files x (front_does x heads (front_rule env x.part.front g))
@@ -150,5 +147,5 @@ module _ (k : Setting) (small : k.stream ≤ 2 ^ 30) where
       (rule-agrees k small x s there env is l h.pend o talk heads g comes)
 
   pub fronts : FrontRules k (Owed Wants)
-  fronts = each-front k (Owed Wants) (λ x env heads g is comes number sound h.
+  fronts = each-front k (Owed Wants) (λ x env heads g is comes number sound placed h.
       where-opened k (λ y v. IsConnNumber y.c → IsConnSound y → SaysTruth k.files y v) opened-says x env heads g is comes h number sound)

@@ -1,13 +1,14 @@
--- What a turn of the front end says to nodes: what was said before, no Offer, or one that carries what the journal tells.
-use Rattle.std.proofs.Common.{◌≡◌, ◌≢◌, ◌⊎◌, ◌+◌, ◌^◌, ◌<◌, ◌-◌, ◌≤◌, ℕ, Bool, true, List, [], ◌∷◌, length, Some, Ok, arith, refl, ap, ◌∙◌, sym, subst, inr, append-nil}
+-- What the front end and the nodes say to one another: what was said before, no Offer and no Give, or one that carries what the journal tells.
+use Rattle.std.proofs.Common.{◌≡◌, ◌⊎◌, ◌+◌, ◌^◌, ◌<◌, ◌-◌, ◌≤◌, ℕ, Bool, true, List, [], ◌∷◌, length, Option, Some, Ok, arith, ap, ◌∙◌, sym, subst, inr, append-nil}
 use Rattle.std.specs.List.{list_any}
-use Rattle.lard_law_view.specs.Prelude.{AreReplies, Body, Client, Conn, ControlBlock, FilesAt, FirstChoice, Front, FrontEnv, FrontRow, FrontTurn, IsConnNumber, IsMessage, IsStream, Kept, Message, Node, Place, Rec, Service, Stream, Tale, Verdict, Was, bytes_served_in, decoded_message, handed_off, is_reset_record, kind_of, may_freeze, next_epoch, offer_kept, parts_of, served_in, tale, told_on}
+use Rattle.lard_law_view.specs.Prelude.{AreReplies, BackRow, Body, Conn, ControlBlock, FilesAt, FirstChoice, Front, FrontEnv, FrontRow, FrontTurn, IsConnNumber, IsMessage, IsStream, Kept, Kind, Message, Node, Part, Place, Rec, Service, Stream, Tale, Verdict, Was, bytes_served_in, decoded_message, handed_off, is_reset_record, kind_of, may_freeze, next_epoch, offer_kept, parts_of, served_in, tale, told_on}
 use Rattle.lard_law_connections.specs.BytesAgreement.{FrontHolds, IsOffering}
 use Rattle.lard_law_connections.specs.BytesKeeping.{FrontTurned}
 use Rattle.lard_law_connections.proofs.BytesTold.{Bytes, bytes_of, place-notes}
 use Rattle.lard_law_connections.specs.Offers.{BodyCarries}
 use Rattle.lard_law_connections.proofs.OffersParts.{Tells, carries}
-use Rattle.lard_law_connections.proofs.PlacesHeads.{kinds-same, spelled-body}
+use Rattle.lard_law_connections.specs.Places.{MaySay, NodeSaid, message_head}
+use Rattle.lard_law_connections.proofs.PlacesHeads.{decoded-head, kinds-same, spelled-body}
 use Rattle.lard_endpoint.proofs.Adoption.{parts-valid}
 use Rattle.lard_rules.specs.Front.{message}
 use Rattle.lard_history.proofs.Each.{Each}
@@ -19,31 +20,54 @@ use Rattle.lard_message.proofs.Whole.{again}
 
 -- ---- what goes out
 
--- a message to a node was sent before, or it carries what is told now
-abbrev pub MayGo : FilesAt → Conn → Bytes → Place → List ℕ → Type 0
-MayGo files x b (Node n) bytes = Was x Front (Node n) bytes ⊎ ((J : List Rec) → bytes_of (tale J x.c) ≡ b → (m : Message) → decoded_message bytes ≡ Ok m → BodyCarries files J x.c m.body)
-MayGo files x b _ bytes = Unit {0}
+-- it was sent before, or it carries what is told now
+abbrev pub GoesFirst : FilesAt → Conn → Bytes → Place → Place → List ℕ → Type 0
+GoesFirst files x b from to bytes = Was x from to bytes ⊎ ((J : List Rec) → bytes_of (tale J x.c) ≡ b → (m : Message) → decoded_message bytes ≡ Ok m → BodyCarries files J x.c m.body)
 
-abbrev pub IsToClient : Place → Type 0
-IsToClient (Client d) = Unit {0}
-IsToClient _ = ⊥
+-- from the front end to a node, and from a node to the front end
+abbrev pub MayGo : FilesAt → Conn → Bytes → Place → Place → List ℕ → Type 0
+MayGo files x b Front (Node n) bytes = GoesFirst files x b Front (Node n) bytes
+MayGo files x b (Node n) Front bytes = GoesFirst files x b (Node n) Front bytes
+MayGo files x b _ _ bytes = Unit {0}
+
+abbrev pub AllMayGo : FilesAt → Conn → Bytes → Place → List (Place × List ℕ) → Type 0
+AllMayGo files x b from ss = Each (λ s. MayGo files x b from s.0 s.1) ss
+
+-- the segments of a turn, and its messages
+abbrev pub AreSaid : FilesAt → Conn → Bytes → Place → List (Place × List ℕ) → List (Place × List ℕ) → Type 0
+AreSaid files x b from ss ms = AllMayGo files x b from ss × AllMayGo files x b from ms
 
 -- segments go to a client
-abbrev pub AreSaid : FilesAt → Conn → Bytes → List (Place × List ℕ) → List (Place × List ℕ) → Type 0
-AreSaid files x b ss ms = Each (λ s. IsToClient s.0) ss × Each (λ s. MayGo files x b s.0 s.1) ms
+pub replies-go : (files : FilesAt) (x : Conn) (b : Bytes) (c : ℕ) (w out : Stream) (r : Bool) (ss : List (Place × List ℕ)) → AreReplies c w out r ss → AllMayGo files x b Front ss
+replies-go files x b c w out r [] h = tt
+replies-go files x b c w out r (s ∷ ss) h = (subst (λ (to : Place). MayGo files x b Front to s.1) (sym h.0) tt, replies-go files x b c w out r ss h.2)
 
-pub replies-to : (c : ℕ) (w out : Stream) (r : Bool) (ss : List (Place × List ℕ)) → AreReplies c w out r ss → Each (λ s. IsToClient s.0) ss
-replies-to c w out r [] h = tt
-replies-to c w out r (s ∷ ss) h = (subst IsToClient (sym h.0) tt, replies-to c w out r ss h.2)
+-- ---- a message that is no Offer, and no Give
 
--- ---- a message that is no Offer
+abbrev pub IsOfParts : Kind → Type 0
+IsOfParts kind.Offer = Unit {0}
+IsOfParts kind.Give = Unit {0}
+IsOfParts _ = ⊥
 
-pub no-offer : (files : FilesAt) (J : List Rec) (c : ℕ) (b : Body) → kind_of b ≢ kind.Offer → BodyCarries files J c b
-no-offer files J c (body.Offer parts) n = absurd (n refl)
-no-offer files J c _ n = tt
+no-parts : (files : FilesAt) (J : List Rec) (c : ℕ) (b : Body) → (IsOfParts (kind_of b) → ⊥) → BodyCarries files J c b
+no-parts files J c (body.Offer parts) n = absurd (n tt)
+no-parts files J c (body.Give parts) n = absurd (n tt)
+no-parts files J c _ n = tt
 
-pub other-goes : (files : FilesAt) (x : Conn) (b : Bytes) (n c e : ℕ) (y : Body) → kind_of y ≢ kind.Offer → MayGo files x b (Node n) (message c e y)
-other-goes files x b n c e y other = inr (λ J is m d. no-offer files J x.c m.body (λ k. other (kinds-same (record { c = c; epoch = record { 0 = e }; body = y }) m d ∙ k)))
+pub other-goes : (files : FilesAt) (x : Conn) (b : Bytes) (n c e : ℕ) (y : Body) → (IsOfParts (kind_of y) → ⊥) → MayGo files x b Front (Node n) (message c e y)
+other-goes files x b n c e y other = inr (λ J is m d.
+    no-parts files J x.c m.body (λ (k : IsOfParts (kind_of m.body)). other (subst IsOfParts (sym (kinds-same (record { c = c; epoch = record { 0 = e }; body = y }) m d)) k)))
+
+-- A node says no Offer. It says no Give, either, since none gives a connection back yet: of this law nothing else rests on that.
+no-node-parts : (o : Option BackRow) (e : ℕ) (k : Kind) → NodeSaid o e k → IsOfParts k → ⊥
+no-node-parts o e kind.Offer h is = h
+no-node-parts o e kind.Give h is = h
+no-node-parts o e _ h is = is
+
+pub node-goes : (files : FilesAt) (x : Conn) (b : Bytes) (p : Part) (n : ℕ) (to : Place) (bytes : List ℕ) → MaySay p (Node n) to (message_head bytes) → MayGo files x b (Node n) to bytes
+node-goes files x b p n Front bytes h = inr (λ J is m d.
+    no-parts files J x.c m.body (no-node-parts (p.nodes n).row m.epoch.0 (kind_of m.body) (subst (MaySay p (Node n) Front) (decoded-head bytes m d) h)))
+node-goes files x b p n _ bytes h = tt
 
 -- ---- an Offer
 
@@ -104,7 +128,7 @@ module _ (files : FilesAt) (x : Conn) (number : IsConnNumber x.c) (w out : Strea
 
   -- the Offer of a hand-off carries what is told then
   pub handed-says : (env : FrontEnv) (row : FrontRow) (s : Service) (path : List ℕ) (choice : FirstChoice) → (let given = handed_off env row s path choice in FrontTurned files x.c w out vs r given.0 given.1)
-      → (let given = handed_off env row s path choice in AreSaid files x (bytes_of (told_on x.c before given.1.notes)) given.1.segments given.1.messages)
+      → (let given = handed_off env row s path choice in AreSaid files x (bytes_of (told_on x.c before given.1.notes)) Front given.1.segments given.1.messages)
   unfolding first_bytes
   handed-says env row s path choice h =
       let given = handed_off env row s path choice in

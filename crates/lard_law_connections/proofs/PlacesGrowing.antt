@@ -71,8 +71,11 @@ front_said-grows p q n e kind.EndedAck g h = ended-grows q.nodes e p.front.row q
 front_said-grows p q n e _ g h = tt
 
 node_said-grows : (o r : Option BackRow) (e : ℕ) (k : Kind) → BackGrows o r → NodeSaid o e k → NodeSaid r e k
+node_said-grows o r e kind.Offer g h = absurd h
 node_said-grows o r e kind.Taken g h = decided-grows e o r g h
 node_said-grows o r e kind.Ended g h = over-grows e o r g h
+node_said-grows o r e kind.Refused g h = absurd h
+node_said-grows o r e kind.Give g h = absurd h
 node_said-grows o r e _ g h = tt
 
 other_said-grows : (o r : Option BackRow) (e : ℕ) (k : Kind) → BackGrows o r → OtherSaid o e k → OtherSaid r e k

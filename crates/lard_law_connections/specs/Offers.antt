@@ -1,4 +1,4 @@
--- What an Offer carries: the endpoint at the moment at which the Offer is first sent, in words of the journal.
+-- What an Offer and a Give carry: the endpoint at the moment at which the message is first sent, in words of the journal.
 use Rattle.std.specs.Prelude.{◌≡◌, ◌⊎◌, ℕ, ◌+◌, ◌-◌, ◌≤◌, false, List, [], ◌∷◌, length, take, drop, Some, Ok}
 use Rattle.lard_law_view.specs.Prelude.{Body, Cuts, EachMay, EndpointParts, FilesAt, Front, Head, Long, Message, Node, Place, Rec, blocks, decoded_message, file_at, is_touched, numbers_of, said_to, served, wrote}
 use Rattle.lard_block.specs.Blocks.{Piece}
@@ -55,20 +55,25 @@ pub record ArePartsOf (files : FilesAt) (past : List Rec) (c : ℕ) (p : Endpoin
 
 abbrev pub BodyCarries : FilesAt → List Rec → ℕ → Body → Type 0
 BodyCarries files past c (body.Offer parts) = ArePartsOf files past c parts
+BodyCarries files past c (body.Give parts) = ArePartsOf files past c parts
 BodyCarries files past c _ = Unit {0}
 
--- Of a message of the front end to a node, which was not sent there before: so it is of each connection that the schedule did
--- not touch.
+-- Of a message that was not sent there before: so it is of each connection that the schedule did not touch.
+abbrev pub FirstCarries : FilesAt → List Rec → Place → Place → List ℕ → Type 0
+FirstCarries files past from to bytes =
+    (m : Message) → decoded_message bytes ≡ Ok m → is_touched past m.c ≡ false → (WasSentBetween from to bytes past → ⊥) → BodyCarries files past m.c m.body
+
+-- from the front end to a node, and from a node to the front end
 abbrev pub OffersTo : FilesAt → List Rec → Place → Place → List ℕ → Type 0
-OffersTo files past Front (Node n) bytes =
-    (m : Message) → decoded_message bytes ≡ Ok m → is_touched past m.c ≡ false → (WasSentBetween Front (Node n) bytes past → ⊥) → BodyCarries files past m.c m.body
+OffersTo files past Front (Node n) bytes = FirstCarries files past Front (Node n) bytes
+OffersTo files past (Node n) Front bytes = FirstCarries files past (Node n) Front bytes
 OffersTo files past _ _ bytes = Unit {0}
 
 abbrev pub MayOffer : FilesAt → List Rec → Rec → Type 0
 MayOffer files past (rec.Sent k from to bytes) = OffersTo files past from to bytes
 MayOffer files past _ = Unit {0}
 
--- each Offer carries the endpoint, where it is sent first
+-- each Offer and each Give carries the endpoint, where it is sent first
 abbrev pub CarryTheEndpoint : FilesAt → List Rec → Type 0
 CarryTheEndpoint files J = EachMay (MayOffer files) [] J
 

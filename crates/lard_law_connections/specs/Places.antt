@@ -140,10 +140,13 @@ FrontSaid p n e kind.Offer = IsDecided e (p.nodes n).row ⊎ IsOffered n e p.fro
 FrontSaid p n e kind.EndedAck = HasEnded e p.front.row
 FrontSaid p n e _ = Unit {0}
 
--- and once a node sent such a message to the front end
+-- and once a node sent such a message to the front end: none offers a connection, refuses one, or gives one back
 abbrev pub NodeSaid : Option BackRow → ℕ → Kind → Type 0
+NodeSaid row e kind.Offer = ⊥
 NodeSaid row e kind.Taken = IsDecided e row
 NodeSaid row e kind.Ended = IsOver e row
+NodeSaid row e kind.Refused = ⊥
+NodeSaid row e kind.Give = ⊥
 NodeSaid row e _ = Unit {0}
 
 -- and once a node sent it to another one

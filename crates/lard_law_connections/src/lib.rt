@@ -1,7 +1,7 @@
 //! Laws of every run on single connections, across every move: admission and the choice of nodes (`Policy`), where a connection is
 //! (`Places`), its resets (`Limits`), who is sent RST (`Resets`), when it is taken and given up (`Motion`), the line (`Line`), what is left to say (`Silence`), why
 //! reading stops (`Stops`), what a place awaits (`Awaits`) and keeps (`Kept`), disks and caches (`Stores`, `Jobs`), the bytes that are
-//! said and taken (`Bytes`), and what an Offer carries (`Offers`).
+//! said and taken (`Bytes`), and what an Offer and a Give carry (`Offers`).
 //!
 //! It stands above the view, by which a law of one connection is one of every run. The files of a topic have its word in front. It has
 //! no code.
@@ -225,10 +225,10 @@ pub fn every_run_is_true()
     ensures prefix { ClientsAcceptAnswers }
 {}
 
-/// In every run of the cluster's machine, whatever is lost, repeated or comes out of order: each Offer of a connection that the
-/// schedule did not touch carries, where it is sent first, both first numbers of the connection, how many responses were queued,
-/// that all their bytes are acknowledged, and the bytes that were received and not read. These begin where the answered requests
-/// are cut off from what follows (RFC 9112, 2.2 and 9.3.2).
+/// In every run of the cluster's machine, whatever is lost, repeated or comes out of order: each Offer, and each Give, of a
+/// connection that the schedule did not touch carries, where it is sent first, both first numbers of the connection, how many
+/// responses were queued, that all their bytes are acknowledged, and the bytes that were received and not read. These begin where
+/// the answered requests are cut off from what follows (RFC 9112, 2.2 and 9.3.2).
 pub fn offers_carry_the_endpoint()
     ensures carries { OffersCarryTheEndpoint }
 {}

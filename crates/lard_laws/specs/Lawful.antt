@@ -110,7 +110,7 @@ pub record IsLawful (config : Config) (files : FilesAt) (J : List Rec) : Type 0 
   pub contents : EachStep (MustBring files) [] (steps J)
   -- for which node it queues a job
   pub queues : EachStep MustQueue [] (steps J)
-  -- what an Offer carries where it is sent first
+  -- what an Offer and a Give carry where they are sent first
   pub offers : CarryTheEndpoint files J
   -- a connection on which nothing more is to come is complete, or in the line
   pub quiet : CompletesWhenQuiet config files J
