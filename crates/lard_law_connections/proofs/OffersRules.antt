@@ -18,7 +18,6 @@ use Rattle.lard_dispatch.specs.declared.dispatch.First.TheVariants as first
 use Rattle.lard_rules.specs.Front.{Does, Drops, Says, message}
 use Rattle.lard_handoff_front.specs.declared.row.FrontConn.TheVariants as stage
 use Rattle.lard_history.proofs.Each.{Each}
-use Rattle.lard_message.specs.declared.kind.Kind.TheVariants as kind
 use Rattle.lard_message.specs.declared.message.Body.TheVariants as body
 use Rattle.lard_law_view.proofs.EachFront.{FrontComes, admission, each-front, of-front}
 use Rattle.lard_rules.proofs.FrontCases.{IsInStage, KeptByFront, KeptBySegment, front-keeps, hands_off}
