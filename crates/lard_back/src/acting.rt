@@ -125,6 +125,7 @@ fn start(
         epoch: at.epoch,
         cache: &state.cache,
         queue: state.disk.len(),
+        leaving: state.conns.is_leaving(),
     };
     tag(alloc, &env, endpoint, &mut work, nodes)?;
     Ok(work)
@@ -237,6 +238,7 @@ fn follow(
         epoch: at.epoch,
         cache: &state.cache,
         queue: state.disk.len(),
+        leaving: state.conns.is_leaving(),
     };
     match go_on(alloc, &env, &mut endpoint, &mut work) {
         Ok(()) => return settle(alloc, &env.serve, endpoint, work),

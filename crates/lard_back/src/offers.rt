@@ -126,6 +126,7 @@ fn enter(
         epoch: at.epoch,
         cache: &state.cache,
         queue: state.disk.len(),
+        leaving: state.conns.is_leaving(),
     };
     match start(alloc, &env, &mut endpoint, parts) {
         Ok(work) => return settle(alloc, &env.serve, endpoint, work),

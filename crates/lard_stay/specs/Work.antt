@@ -24,6 +24,7 @@ stay_env_seen env = record {
   epoch = env.epoch.0;
   cached = has_path env.cache.now.entries;
   queue = env.queue;
+  leaving = env.leaving;
 }
 
 -- an endpoint and what is in hand beside it

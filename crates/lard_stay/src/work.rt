@@ -23,6 +23,8 @@ pub struct Env<'a> {
     pub cache: &'a Cache,
     /// How many jobs the node's disk had before the turn.
     pub queue: u32,
+    /// The node takes nothing new, and gives back what it has.
+    pub leaving: bool,
 }
 
 /// What is in hand beside the endpoint.

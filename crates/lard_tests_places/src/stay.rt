@@ -257,6 +257,7 @@ fn serve_at_node(
         epoch: Epoch(2),
         cache: &cache,
         queue: 5,
+        leaving: false,
     };
     let mut endpoint = adopt(alloc)?;
     endpoint.law();
