@@ -54,6 +54,7 @@ pub mod MotionAnswers
 pub mod MotionPicking
 pub mod MotionComings
 pub mod MotionElsewhere
+pub mod MotionEpochs
 pub mod MotionFronts
 pub mod MotionNodes
 pub mod MotionNodeTurns

@@ -5,9 +5,9 @@ use Rattle.std.proofs.lemmas.List.Folds.{list_any-append}
 use Rattle.std.specs.List.{fold, list_any}
 use Rattle.lard_law_view.specs.Prelude.{Ask, Body, Client, Conn, Front, FrontConn, FrontRow, Kept, Kind, LaterChoice, Node, Place, Rec, Seen, assigned_notes, epoch_at, is_under, kind_of, listed, over_note, sent_of, without}
 use Rattle.lard_base.specs.declared.place.TimerKind.TheVariants as timer
-use Rattle.lard_law_connections.specs.MotionStory.{Story, ended_in, forward_to, is_among, is_forward, is_syn_in, picked, segment_in, story, story_step}
+use Rattle.lard_law_connections.specs.MotionStory.{Story, back_in, forward_to, is_among, is_forward, is_syn_in, picked, segment_in, story, story_step}
 use Rattle.lard_law_connections.proofs.MotionAnswers.{IsAnswer}
-use Rattle.lard_law_connections.proofs.MotionElsewhere.{IsAway, IsBare, IsOfferKept, RowKnown, StageKnown}
+use Rattle.lard_law_connections.proofs.MotionElsewhere.{IsAway, IsBack, IsBare, IsOfferKept, RowKnown, StageKnown}
 use Rattle.lard_law_connections.proofs.MotionPicking.{IsStill, pick}
 use Rattle.lard_law_connections.proofs.PlacesHeads.{head, spelled-some}
 use Rattle.lard_law_view.specs.View.{sending}
@@ -68,30 +68,33 @@ without-kept (q ∷ ks) h = cond_both (not (is_under timer.Offer 0 q)) (q ∷ wi
 
 -- ---- what a packet that comes adds
 
--- what is seen first: whether a plain SYN came, of which epochs an Ended, and which segments
-pub record Heads (x : Conn) (heads : List Seen) (syn : Bool) (ends : List ℕ) (segments : List (List ℕ)) : Type 0 where
+-- what is seen first: whether a plain SYN came, in which epochs the connection comes back, and which segments came
+pub record Heads (x : Conn) (heads : List Seen) (syn : Bool) (comes : List ℕ) (segments : List (List ℕ)) : Type 0 where
   pub bare : Each IsBare heads
   pub syn_is : list_any (is_syn_in x.c) heads ≡ syn
-  pub ends_are : picked ended_in heads ≡ ends
+  pub comes_are : picked back_in heads ≡ comes
   pub segments_are : picked (segment_in x.c) heads ≡ segments
-  pub tells : fold (story_step x.c) (story x.c x.seen) heads ≡ record (story x.c x.seen) { syn = (story x.c x.seen).syn || syn; ended = (story x.c x.seen).ended ++ ends }
+  pub tells : fold (story_step x.c) (story x.c x.seen) heads ≡ record (story x.c x.seen) { syn = (story x.c x.seen).syn || syn; back = (story x.c x.seen).back ++ comes }
 
 pub among-more : (e : ℕ) (es ds : List ℕ) → is_among e es ≡ true → is_among e (es ++ ds) ≡ true
 among-more e es ds h = list_any-append (λ d. d == e) es ds ∙ ap (λ b. b || is_among e ds) h
 
-module _ (t : Story) (syn : Bool) (ends : List ℕ) where
+module _ (t : Story) (syn : Bool) (comes : List ℕ) where
   abbrev pub behind_heads : Story
-  behind_heads = record t { syn = t.syn || syn; ended = t.ended ++ ends }
+  behind_heads = record t { syn = t.syn || syn; back = t.back ++ comes }
 
-  -- a stage stays known, where no Ended of its epoch came
-  pub stage-behind : (st : FrontConn) → ((n e : ℕ) → IsAway t n e → is_among e (t.ended ++ ends) ≡ false) → StageKnown t st → StageKnown behind_heads st
-  stage-behind (stage.Held b) none h = record { away = h.away; epoch = h.epoch }
-  stage-behind (stage.Waiting b) none h = record { away = h.away; epoch = h.epoch }
-  stage-behind stage.Lent none h = record { away = h.away; epoch = h.epoch }
-  stage-behind (stage.Offering n d) none h = record { away = h.away; epoch = h.epoch; node = h.node; ended = none n d.0 h }
-  stage-behind (stage.Moved n d) none h = record { away = h.away; epoch = h.epoch; node = h.node; ended = none n d.0 h }
-  stage-behind (stage.Closed last) none h = record { away = h.away; ended = λ e is. among-more e t.ended ends (h.ended e is) }
+  pub back-behind : IsBack t → IsBack behind_heads
+  back-behind h = record { away = h.away; back = λ e is. among-more e t.back comes (h.back e is) }
 
-  pub row-behind : (o : Option FrontRow) → (o ≡ None → syn ≡ false) → ((n e : ℕ) → IsAway t n e → is_among e (t.ended ++ ends) ≡ false) → RowKnown t o → RowKnown behind_heads o
-  row-behind None plain none h = (h.0, (λ i. h.1 i || plain refl i), record { away = h.2.away; epoch = h.2.epoch })
+  -- a stage stays known, where it does not come back in its epoch
+  pub stage-behind : (st : FrontConn) → ((n e : ℕ) → IsAway t n e → is_among e (t.back ++ comes) ≡ false) → StageKnown t st → StageKnown behind_heads st
+  stage-behind (stage.Held b) none h = back-behind h
+  stage-behind (stage.Waiting b) none h = back-behind h
+  stage-behind stage.Lent none h = back-behind h
+  stage-behind (stage.Offering n d) none h = record { away = h.away; epoch = h.epoch; node = h.node; back = none n d.0 h }
+  stage-behind (stage.Moved n d) none h = record { away = h.away; epoch = h.epoch; node = h.node; back = none n d.0 h }
+  stage-behind (stage.Closed last) none h = back-behind h
+
+  pub row-behind : (o : Option FrontRow) → (o ≡ None → syn ≡ false) → ((n e : ℕ) → IsAway t n e → is_among e (t.back ++ comes) ≡ false) → RowKnown t o → RowKnown behind_heads o
+  row-behind None plain none h = (h.0, (λ i. h.1 i || plain refl i), back-behind h.2)
   row-behind (Some row) plain none h = (h.0, ap (λ b. b || syn) h.1, stage-behind row.stage none h.2)

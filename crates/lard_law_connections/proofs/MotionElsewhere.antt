@@ -3,9 +3,9 @@ use Rattle.std.proofs.Common.{◌≡◌, ℕ, ◌||◌, ◌&&◌, not, Bool, tru
 use Rattle.std.specs.List.{fold, list_any}
 use Rattle.std.proofs.lemmas.List.Folds.{list_any-append}
 use Rattle.lard_law_view.specs.Prelude.{Came, Client, Conn, Front, FrontConn, FrontPart, FrontRow, IsConnNumber, IsConnSound, IsMachine, Kept, Letter, Move, Node, NodePart, Place, Rec, Row, Seen, grown, letter, letters_of, listed, rows_of, seen_in}
-use Rattle.lard_law_connections.specs.Motion.{Forwards, HandsOff, forwards_by, IsHandedOff, TakesBack, TakesFirst, first_end, first_syn, first_takes, forwards_of, later_takes}
-use Rattle.lard_law_connections.specs.MotionStory.{Story, ended_in, first_node, forward_to, front_gave_epoch, front_took, is_among, is_syn_in, of_row, picked, row_step, segment_in, story, to_node}
-use Rattle.lard_law_connections.proofs.MotionPicking.{IsApart, IsStill, apart-ended, apart-segments, apart-story, apart-syn, came-none, pick, pick-seen, picked-append, rows-syn, still-all, stills-first, stills-gave, stills-took, still-first, still-gave, still-took, or-false, story-grown, IsNoGift, pick-given, pick-noted, pick-sent}
+use Rattle.lard_law_connections.specs.Motion.{Forwards, HandsOff, forwards_by, IsHandedOff, IsNextUp, StepsUp, TakesBack, TakesFirst, first_back, first_syn, first_takes, forwards_of, later_takes}
+use Rattle.lard_law_connections.specs.MotionStory.{Story, back_in, first_node, forward_to, front_gave_epoch, front_took, is_among, is_syn_in, last_gave, of_row, picked, refused_in, row_step, segment_in, story, to_node}
+use Rattle.lard_law_connections.proofs.MotionPicking.{IsApart, IsStill, apart-back, apart-segments, apart-story, apart-syn, came-none, pick, pick-seen, picked-append, rows-syn, still-all, stills-first, stills-gave, stills-took, still-first, still-gave, still-took, or-false, story-grown, IsNoGift, pick-given, pick-noted, pick-sent}
 use Rattle.lard_law_connections.specs.Places.{IsDecided, message_head}
 use Rattle.lard_law_connections.proofs.PlacesGrowing.{decided-grows}
 use Rattle.lard_law_connections.proofs.PlacesTurns.{IsPlaced, Owes}
@@ -28,32 +28,28 @@ pub record Helps (x : Conn) (v : Move) : Type 0 where
 
 -- ---- what is known of the way
 
--- it is away at node n, in this epoch, and nobody told yet that it ended
+-- it is away at node n, in this epoch, and did not come back yet
 pub record IsAway (t : Story) (n e : ℕ) : Type 0 where
   pub away : t.away ≡ true
   pub epoch : t.epoch ≡ Some e
   pub node : t.node ≡ Some n
-  pub ended : is_among e t.ended ≡ false
+  pub back : is_among e t.back ≡ false
 
--- it never was away, or it ended there
-pub record IsOver (t : Story) : Type 0 where
+-- it is not away: it never was, or it came back
+pub record IsBack (t : Story) : Type 0 where
   pub away : t.away ≡ false
-  pub ended : (e : ℕ) → t.epoch ≡ Some e → is_among e t.ended ≡ true
-
-pub record IsHeld (t : Story) : Type 0 where
-  pub away : t.away ≡ false
-  pub epoch : t.epoch ≡ None
+  pub back : (e : ℕ) → t.epoch ≡ Some e → is_among e t.back ≡ true
 
 abbrev pub StageKnown : Story → FrontConn → Type 0
-StageKnown t (stage.Held b) = IsHeld t
-StageKnown t (stage.Waiting b) = IsHeld t
-StageKnown t stage.Lent = IsHeld t
+StageKnown t (stage.Held b) = IsBack t
+StageKnown t (stage.Waiting b) = IsBack t
+StageKnown t stage.Lent = IsBack t
 StageKnown t (stage.Offering n d) = IsAway t n d.0
 StageKnown t (stage.Moved n d) = IsAway t n d.0
-StageKnown t (stage.Closed last) = IsOver t
+StageKnown t (stage.Closed last) = IsBack t
 
 abbrev pub RowKnown : Story → Option FrontRow → Type 0
-RowKnown t None = (t.took ≡ false) × (t.syn ≡ false) × IsHeld t
+RowKnown t None = (t.took ≡ false) × (t.syn ≡ false) × IsBack t
 RowKnown t (Some row) = (t.took ≡ true) × (t.syn ≡ true) × StageKnown t row.stage
 
 -- a node took it in this epoch, or in a later one
@@ -69,7 +65,7 @@ IsNotOfClient l = IsMachine l.from
 
 pub record IsKnown (x : Conn) : Type 0 where
   pub row : RowKnown (story x.c x.seen) x.part.front.row
-  pub ended : (e : ℕ) → is_among e (story x.c x.seen).ended ≡ true → SomeDecided e x.part.nodes
+  pub back : (e : ℕ) → is_among e (story x.c x.seen).back ≡ true → SomeDecided e x.part.nodes
   pub kept : Each IsOfferKept x.part.front.kept
   pub fresh : x.part.station ≡ None → Each IsNotOfClient x.letters
 
@@ -79,6 +75,7 @@ pub record FrontMoves (c : ℕ) (past step : List Seen) : Type 0 where
   pub takes_first : TakesFirst c past step
   pub hands_off : HandsOff step
   pub takes_back : TakesBack c past step
+  pub steps_up : StepsUp front_took past step
   pub forwards : Forwards c past step
 
 -- the move is as it must be, and what is known stays known
@@ -87,27 +84,32 @@ Moves x v = FrontMoves x.c x.seen (seen_in x v) × IsKnown (grown x v)
 
 -- ---- the lists that a step is judged by
 
+-- each of these epochs is one in which the connection may be taken in the move
+abbrev pub AreNextUp : Conn → Move → List ℕ → Type 0
+AreNextUp x v takes = Each (IsNextUp (last_gave x.seen) (picked refused_in (seen_in x v))) takes
+
 -- what is seen of the move
-pub record Lists (x : Conn) (v : Move) (takes gives firsts : List ℕ) (forwards : List (ℕ × List ℕ)) (syn : Bool) (ended : List ℕ) (segments : List (List ℕ)) : Type 0 where
+pub record Lists (x : Conn) (v : Move) (takes gives firsts : List ℕ) (forwards : List (ℕ × List ℕ)) (syn : Bool) (comes : List ℕ) (segments : List (List ℕ)) : Type 0 where
   pub takes_are : picked (of_row front_took) (seen_in x v) ≡ takes
   pub gives_are : picked (of_row front_gave_epoch) (seen_in x v) ≡ gives
   pub firsts_are : picked (of_row first_node) (seen_in x v) ≡ firsts
   pub forwards_are : picked (of_row forward_to) (seen_in x v) ≡ forwards
   pub syn_is : list_any (is_syn_in x.c) (seen_in x v) ≡ syn
-  pub ended_are : picked ended_in (seen_in x v) ≡ ended
+  pub comes_are : picked back_in (seen_in x v) ≡ comes
   pub segments_are : picked (segment_in x.c) (seen_in x v) ≡ segments
 
-module _ (x : Conn) (v : Move) (takes gives firsts : List ℕ) (forwards : List (ℕ × List ℕ)) (syn : Bool) (ended : List ℕ) (segments : List (List ℕ)) (l : Lists x v takes gives firsts forwards syn ended segments) where
+module _ (x : Conn) (v : Move) (takes gives firsts : List ℕ) (forwards : List (ℕ × List ℕ)) (syn : Bool) (comes : List ℕ) (segments : List (List ℕ)) (l : Lists x v takes gives firsts forwards syn comes segments) where
   abbrev t : Story
   t = story x.c x.seen
 
-  pub by-lists : first_takes t takes ≡ first_syn t syn → IsHandedOff gives firsts (picked (of_row to_node) (seen_in x v)) → later_takes t takes ≡ first_end t ended → forwards ≡ forwards_of x.c t segments
+  pub by-lists : first_takes t takes ≡ first_syn t syn → IsHandedOff gives firsts (picked (of_row to_node) (seen_in x v)) → later_takes t takes ≡ first_back t comes → AreNextUp x v takes → forwards ≡ forwards_of x.c t segments
       → FrontMoves x.c x.seen (seen_in x v)
-  by-lists first off back forth = record {
+  by-lists first off back up forth = record {
     takes_first = ap (first_takes t) l.takes_are ∙ first ∙ ap (first_syn t) (sym l.syn_is);
     hands_off = subst (λ (gs : List ℕ). IsHandedOff gs (picked (of_row first_node) (seen_in x v)) (picked (of_row to_node) (seen_in x v))) (sym l.gives_are)
         (subst (λ (fs : List ℕ). IsHandedOff gives fs (picked (of_row to_node) (seen_in x v))) (sym l.firsts_are) off);
-    takes_back = ap (later_takes t) l.takes_are ∙ back ∙ ap (first_end t) (sym l.ended_are);
+    takes_back = ap (later_takes t) l.takes_are ∙ back ∙ ap (first_back t) (sym l.comes_are);
+    steps_up = subst (AreNextUp x v) (sym l.takes_are) up;
     forwards = l.forwards_are ∙ forth ∙ ap (forwards_of x.c t) (sym l.segments_are);
   }
 
@@ -183,8 +185,8 @@ module _ (x : Conn) (v : Move) (own : IsItsOwn x v) (parts : Parts x v) where
   pub seen-syn : (b : Bool) → list_any (is_syn_in x.c) v.heads ≡ b → list_any (is_syn_in x.c) (seen_in x v) ≡ b
   seen-syn b e = list_any-append (is_syn_in x.c) v.heads (map Row (rows_of x v)) ∙ (λ i. e i || rows-syn x.c (rows_of x v) i) ∙ or-false b
 
-  pub seen-ended : (es : List ℕ) → picked ended_in v.heads ≡ es → picked ended_in (seen_in x v) ≡ es
-  seen-ended es e = picked-append ended_in v.heads (map Row (rows_of x v)) ∙ (λ i. e i ++ came-none ended_in (λ r. refl) (rows_of x v) i) ∙ append-nil es
+  pub seen-back : (es : List ℕ) → picked back_in v.heads ≡ es → picked back_in (seen_in x v) ≡ es
+  seen-back es e = picked-append back_in v.heads (map Row (rows_of x v)) ∙ (λ i. e i ++ came-none back_in (λ r. refl) (rows_of x v) i) ∙ append-nil es
 
   pub seen-segments : (ss : List (List ℕ)) → picked (segment_in x.c) v.heads ≡ ss → picked (segment_in x.c) (seen_in x v) ≡ ss
   seen-segments ss e = picked-append (segment_in x.c) v.heads (map Row (rows_of x v)) ∙ (λ i. e i ++ came-none (segment_in x.c) (λ r. refl) (rows_of x v) i) ∙ append-nil ss
@@ -205,11 +207,11 @@ no-syn t = ap (λ b. cond b (1 ∷ []) []) (and-false (not t.syn))
 pub no-takes : (t : Story) → (first_takes t [] ≡ []) × (later_takes t [] ≡ [])
 no-takes t = (same-none t.took, same-none t.took)
 
-pub no-end : (t : Story) → first_end t [] ≡ []
-no-end t = go t.epoch where
-  go : (o : Option ℕ) → (elim o as (λ q. List ℕ) [ None ↦ [] | Some e ↦ cond (not (is_among e t.ended) && false) ((e + 1) ∷ []) [] ]) ≡ []
+pub none-back : (t : Story) → first_back t [] ≡ []
+none-back t = go t.epoch where
+  go : (o : Option ℕ) → (elim o as (λ q. List ℕ) [ None ↦ [] | Some e ↦ cond (not (is_among e t.back) && false) ((e + 1) ∷ []) [] ]) ≡ []
   go None = refl
-  go (Some e) = ap (λ b. cond b ((e + 1) ∷ []) []) (and-false (not (is_among e t.ended)))
+  go (Some e) = ap (λ b. cond b ((e + 1) ∷ []) []) (and-false (not (is_among e t.back)))
 
 pub no-forwards : (c : ℕ) (t : Story) → forwards_of c t [] ≡ []
 no-forwards c t = ap (λ l. cond t.away l []) (go t.node t.epoch) ∙ same-none t.away where
@@ -223,8 +225,8 @@ pub still-known : (x : Conn) (v : Move) → Helps x v → IsKnown x → story x.
     → (v.part.station ≡ None → Each IsNotOfClient (x.letters ++ letters_of v)) → IsKnown (grown x v)
 still-known x v help known same row kept fresh = record {
   row = subst (λ (t : Story). RowKnown t v.part.front.row) (sym same) row;
-  ended = λ e among.
-      let d : SomeDecided e x.part.nodes = known.ended e (ap (λ (t : Story). is_among e t.ended) (sym same) ∙ among) in
+  back = λ e among.
+      let d : SomeDecided e x.part.nodes = known.back e (ap (λ (t : Story). is_among e t.back) (sym same) ∙ among) in
       (d.0, decided-grows e (x.part.nodes d.0).row (v.part.nodes d.0).row (help.owes.grows.nodes d.0) d.1);
   kept = kept;
   fresh = fresh;
@@ -260,7 +262,7 @@ module _ (x : Conn) (v : Move) (help : Helps x v) (known : IsKnown x) where
         firsts_are = seen-firsts x v help.own parts [] (stills-first v.said.notes q.notes);
         forwards_are = seen-forwards x v help.own parts [] q.messages;
         syn_is = seen-syn x v help.own parts false (apart-syn x.c v.heads q.heads);
-        ended_are = seen-ended x v help.own parts [] (apart-ended x.c v.heads q.heads);
+        comes_are = seen-back x v help.own parts [] (apart-back x.c v.heads q.heads);
         segments_are = seen-segments x v help.own parts [] (apart-segments x.c v.heads q.heads);
       } in
       let same : story x.c (x.seen ++ seen_in x v) ≡ now =
@@ -268,7 +270,7 @@ module _ (x : Conn) (v : Move) (help : Helps x v) (known : IsKnown x) where
       ∙ (λ i. fold row_step (fold row_step (apart-story x.c now v.heads q.heads i) v.said.notes) v.said.gave)
       ∙ ap (λ (t : Story). fold row_step t v.said.gave) (still-all now v.said.notes q.notes)
       ∙ still-all now v.said.gave q.gave in (
-        by-lists x v [] [] [] [] false [] [] lists ((no-takes now).0 ∙ sym (no-syn now)) tt ((no-takes now).1 ∙ sym (no-end now)) (sym (no-forwards x.c now)),
+        by-lists x v [] [] [] [] false [] [] lists ((no-takes now).0 ∙ sym (no-syn now)) tt ((no-takes now).1 ∙ sym (none-back now)) tt (sym (no-forwards x.c now)),
         still-known x v help known same q.row q.kept q.fresh,
       )
 

@@ -6,12 +6,15 @@ use Rattle.std.proofs.lemmas.List.Sums.{fold-append}
 use Rattle.std.specs.List.{fold}
 use Rattle.lard_law_view.specs.Prelude.{Ask, BackRow, Call, Client, Conn, ControlBlock, Did, EndedBy, Ending, Epoch, Final, First, FirstChoice, Front, FrontConn, FrontDeed, FrontEnv, FrontGets, FrontHears, FrontPart, FrontRest, FrontRow, FrontTurn, IsEarlyHere, IsFrontEnv, Later, Move, Node, NodePart, Place, Reading, Rec, Said as Segment, Seen, Service, Setting, Turn, ack_sent, after_timer, assigned_notes, assigns, by_front, end_answer, ended_with, front_begun, front_does, front_ended, front_ended_by, front_ends, front_fired, front_hears, front_reads, front_rest, front_rests, front_rule, front_saying, handed_off, heard, hears_at, is_away, is_plain_syn, last_words, leaves_by, letter, letters_of, listed, listening, met, next_epoch, on_segment, over_note, placed, seen_in, sent_of, serving, serving_settled, settled_by, spoken, stage_after, tag_sent, taken_by, tale_at, timed, tombstone, turn_here, with_front, without}
 use Rattle.lard_base.specs.declared.place.TimerKind.TheVariants as timer
-use Rattle.lard_law_connections.specs.Motion.{IsHandedOff, first_end, first_syn, first_takes, forwards_by, forwards_of, later_takes}
-use Rattle.lard_law_connections.specs.MotionStory.{Story, first_node, forward_to, front_gave_epoch, front_took, is_among, row_step, story, to_node}
+use Rattle.lard_law_connections.specs.Motion.{IsHandedOff, first_back, first_syn, first_takes, forwards_by, forwards_of, later_takes}
+use Rattle.lard_law_connections.specs.MotionStory.{Story, first_node, forward_to, front_gave_epoch, front_took, is_among, last_gave, row_step, story, to_node}
 use Rattle.lard_law_connections.proofs.MotionAnswers.{reads-answers}
-use Rattle.lard_law_connections.proofs.MotionElsewhere.{Helps, IsAway, IsHeld, IsKnown, IsNotOfClient, IsOfferKept, IsOver, Lists, Moves, Parts, RowKnown, SomeDecided, StageKnown, by-lists, machine-letters, no-end, no-forwards, no-syn, no-takes, seen-ended, seen-firsts, seen-forwards, seen-gives, seen-said, seen-segments, seen-syn, seen-takes}
+use Rattle.lard_law_connections.proofs.MotionElsewhere.{AreNextUp, Helps, IsAway, IsBack, IsKnown, IsNotOfClient, IsOfferKept, Lists, Moves, Parts, RowKnown, SomeDecided, StageKnown, by-lists, machine-letters, no-forwards, no-syn, no-takes, none-back, seen-back, seen-firsts, seen-forwards, seen-gives, seen-said, seen-segments, seen-syn, seen-takes}
 use Rattle.lard_law_connections.proofs.MotionPicking.{IsStill, pick, pick-append, segments-none, still-all, stills-first, stills-took, story-grown}
-use Rattle.lard_law_connections.specs.Places.{ArePast, IsDecided, IsPast, Owning, Sits, StageSits, owning}
+use Rattle.lard_law_connections.specs.Places.{ArePast, IsDecided, IsPast, Owning, Sits, StageSits, owning, unowned}
+use Rattle.lard_law_connections.proofs.MotionEpochs.{gave-last}
+use Rattle.lard_law_connections.proofs.PlacesFrontMessages.{there-epoch}
+use Rattle.lard_law_connections.proofs.PlacesFrontRules.{decided-there}
 use Rattle.lard_law_connections.proofs.PlacesHeads.{spelled-head}
 use Rattle.lard_law_connections.proofs.PlacesLoops.{settled-is, spoken-to}
 use Rattle.lard_law_connections.proofs.PlacesTurns.{IsPlaced, early-at}
@@ -26,19 +29,23 @@ use Rattle.lard_journal.specs.declared.rec.Rec.TheVariants as rec
 use Rattle.lard_message.specs.declared.message.Body.TheVariants as body
 use Rattle.lard_rules.specs.declared.places.Ending.TheVariants as ending
 use Rattle.lard_law_view.proofs.EndpointSends.{AllTo, ready-to}
-use Rattle.lard_law_connections.proofs.MotionComings.{assigned-still, over-still, Heads, answers-still, behind_heads, forwarded-is, not-forwarded, resent-none, row-behind, without-kept}
+use Rattle.lard_law_connections.proofs.MotionComings.{assigned-still, over-still, Heads, answers-still, back-behind, behind_heads, forwarded-is, not-forwarded, resent-none, row-behind, without-kept}
 use Rattle.lard_rules.proofs.FrontCases.{IsAsGiven, IsInStage, KeptByFront, front-keeps, of-stage, fired_before, fired_service}
 
--- anything but a segment and an Ended
+-- anything but a segment, and what brings the connection back
 abbrev pub IsCalm : FrontGets → Type 0
 IsCalm (FrontHears bytes given) = ⊥
 IsCalm (EndedBy n epoch last) = ⊥
 IsCalm _ = Unit {0}
 
+or-true : (b : Bool) → b || true ≡ true
+or-true true = refl
+or-true false = refl
+
 -- ---- one connection
 
 module _ (k : Setting) (x : Conn) (at_place : IsPlaced x) (known : IsKnown x) (heads : List Seen) (syn : Bool) (es : List ℕ) (segments : List (List ℕ)) (came : Heads x heads syn es segments) (env : FrontEnv) (is : IsFrontEnv k x.c env)
-    (some_ended : (e : ℕ) → is_among e ((story x.c x.seen).ended ++ es) ≡ true → SomeDecided e x.part.nodes) where
+    (some_decided : (e : ℕ) → is_among e ((story x.c x.seen).back ++ es) ≡ true → SomeDecided e x.part.nodes) where
   abbrev p : FrontPart
   p = x.part.front
 
@@ -60,6 +67,9 @@ module _ (k : Setting) (x : Conn) (at_place : IsPlaced x) (known : IsKnown x) (h
 
   -- ---- a move, by its lists
 
+  abbrev move : FrontPart → FrontTurn → Move
+  move part turn = record { place = Front; heads = heads; said = by_front turn; part = with_front x.part part }
+
   pub record Turns (part : FrontPart) (turn : FrontTurn) (takes gives firsts : List ℕ) (forwards : List (ℕ × List ℕ)) (then : Story) : Type 0 where
     pub takes_are : pick front_took turn.notes ≡ takes
     pub gives_are : pick front_gave_epoch turn.gave ≡ gives
@@ -69,14 +79,12 @@ module _ (k : Setting) (x : Conn) (at_place : IsPlaced x) (known : IsKnown x) (h
     pub tells : fold row_step (fold row_step u turn.notes) turn.gave ≡ then
     pub first : first_takes t takes ≡ first_syn t syn
     pub off : IsHandedOff gives firsts (pick to_node (map (sending Front) turn.messages))
-    pub back : later_takes t takes ≡ first_end t es
+    pub back : later_takes t takes ≡ first_back t es
+    pub up : AreNextUp x (move part turn) takes
     pub forth : forwards ≡ forwards_of x.c t segments
     pub row : RowKnown then part.row
-    pub ended : then.ended ≡ u.ended
+    pub same_back : then.back ≡ u.back
     pub kept : Each IsOfferKept part.kept
-
-  abbrev move : FrontPart → FrontTurn → Move
-  move part turn = record { place = Front; heads = heads; said = by_front turn; part = with_front x.part part }
 
   fresh-on : (part : FrontPart) (turn : FrontTurn) → (x.part.station ≡ None → Each IsNotOfClient (x.letters ++ letters_of (move part turn)))
   fresh-on part turn none = Each-append IsNotOfClient x.letters (letters_of (move part turn)) (known.fresh none)
@@ -93,15 +101,15 @@ module _ (k : Setting) (x : Conn) (at_place : IsPlaced x) (known : IsKnown x) (h
         firsts_are = seen-firsts x v help.own parts firsts m.firsts_are;
         forwards_are = seen-forwards x v help.own parts forwards m.forwards_are;
         syn_is = seen-syn x v help.own parts syn came.syn_is;
-        ended_are = seen-ended x v help.own parts es came.ends_are;
+        comes_are = seen-back x v help.own parts es came.comes_are;
         segments_are = seen-segments x v help.own parts segments came.segments_are;
       } in
       let now : story x.c (x.seen ++ seen_in x v) ≡ then =
       story-grown x v ∙ ap (λ (s : Story). fold row_step (fold row_step s turn.notes) turn.gave) came.tells ∙ m.tells in (
-        by-lists x v takes gives firsts forwards syn es segments lists m.first (subst (IsHandedOff gives firsts) (sym (seen-said x v help.own parts (pick to_node (map (sending Front) turn.messages)) (segments-none to_node Front x.c (λ i bytes. refl) turn.segments m.to) refl)) m.off) m.back m.forth,
+        by-lists x v takes gives firsts forwards syn es segments lists m.first (subst (IsHandedOff gives firsts) (sym (seen-said x v help.own parts (pick to_node (map (sending Front) turn.messages)) (segments-none to_node Front x.c (λ i bytes. refl) turn.segments m.to) refl)) m.off) m.back m.up m.forth,
         record {
           row = subst (λ (s : Story). RowKnown s part.row) (sym now) m.row;
-          ended = λ e among. some_ended e (ap (λ (l : List ℕ). is_among e l) (sym (ap (λ (s : Story). s.ended) now ∙ m.ended)) ∙ among);
+          back = λ e among. some_decided e (ap (λ (l : List ℕ). is_among e l) (sym (ap (λ (s : Story). s.back) now ∙ m.same_back)) ∙ among);
           kept = m.kept;
           fresh = fresh-on part turn;
         },
@@ -112,7 +120,7 @@ module _ (k : Setting) (x : Conn) (at_place : IsPlaced x) (known : IsKnown x) (h
   -- what the lists must be where it neither takes it nor gives it up
   record Calm (forwards : List (ℕ × List ℕ)) : Type 0 where
     first : [] ≡ first_syn t syn
-    back : [] ≡ first_end t es
+    back : [] ≡ first_back t es
     forth : forwards ≡ forwards_of x.c t segments
 
   calm-move : (part : FrontPart) (turn : FrontTurn) (forwards : List (ℕ × List ℕ)) → Calm forwards → Each IsStill turn.notes → turn.gave ≡ [] → pick forward_to (map (sending Front) turn.messages) ≡ forwards
@@ -127,9 +135,10 @@ module _ (k : Setting) (x : Conn) (at_place : IsPlaced x) (known : IsKnown x) (h
     first = (no-takes t).0 ∙ calm.first;
     off = tt;
     back = (no-takes t).1 ∙ calm.back;
+    up = tt;
     forth = calm.forth;
     row = row;
-    ended = refl;
+    same_back = refl;
     kept = kept;
   })
 
@@ -137,26 +146,27 @@ module _ (k : Setting) (x : Conn) (at_place : IsPlaced x) (known : IsKnown x) (h
   taken-first : t.syn ≡ true → [] ≡ first_syn t syn
   taken-first e = ap (λ b. cond (not b && syn) (1 ∷ []) []) (sym e)
 
-  unended : t.epoch ≡ None → [] ≡ first_end t es
-  unended e = ap (λ o. elim o as (λ q. List ℕ) [ None ↦ [] | Some d ↦ cond (not (is_among d t.ended) && is_among d es) ((d + 1) ∷ []) [] ]) (sym e)
+  -- it came back already
+  was-back : IsBack t → [] ≡ first_back t es
+  was-back h = go t.epoch refl where
+    go : (o : Option ℕ) → t.epoch ≡ o → [] ≡ (elim o as (λ q. List ℕ) [ None ↦ [] | Some d ↦ cond (not (is_among d t.back) && is_among d es) ((d + 1) ∷ []) [] ])
+    go None f = refl
+    go (Some d) f = ap (λ b. cond (not b && is_among d es) ((d + 1) ∷ []) []) (sym (h.back d f))
 
   at-home : t.away ≡ false → [] ≡ forwards_of x.c t segments
   at-home e = ap (λ b. cond b (forwards_by x.c t.node t.epoch segments) []) (sym e)
 
   -- where it is held here
-  held-calm : (row : FrontRow) → p.row ≡ Some row → IsHeld t → Calm []
+  held-calm : (row : FrontRow) → p.row ≡ Some row → IsBack t → Calm []
   held-calm row found h =
       let r : RowKnown t (Some row) = subst (RowKnown t) found known.row in
-      record { first = taken-first r.1; back = unended h.epoch; forth = at-home h.away }
+      record { first = taken-first r.1; back = was-back h; forth = at-home h.away }
 
   row-of : (row : FrontRow) → p.row ≡ Some row → RowKnown t (Some row)
   row-of row found = subst (RowKnown t) found known.row
 
-  held-behind : IsHeld t → IsHeld u
-  held-behind h = record { away = h.away; epoch = h.epoch }
-
   -- a turn of an endpoint that is here
-  ends-move : (row : FrontRow) → p.row ≡ Some row → IsHeld t → (rest : FrontRest) (stays : ControlBlock → FrontConn) → ((b : ControlBlock) → StageKnown u (stays b)) → (given : Ending × Turn) (calls : List Call)
+  ends-move : (row : FrontRow) → p.row ≡ Some row → IsBack t → (rest : FrontRest) (stays : ControlBlock → FrontConn) → ((b : ControlBlock) → StageKnown u (stays b)) → (given : Ending × Turn) (calls : List Call)
       → Each IsStill given.1.notes → AllTo (Client env.serve.c) given.1.segments → Goes (Does (record { part = front_rests p row rest stays given.0; turn = turn_here given.1; calls = calls }))
   ends-move row found h rest stays stay given calls notes to =
       let r : RowKnown t (Some row) = row-of row found in
@@ -164,10 +174,10 @@ module _ (k : Setting) (x : Conn) (at_place : IsPlaced x) (known : IsKnown x) (h
       (r.0, ap (λ b. b || syn) r.1, go given.0) known.kept where
         go : (e : Ending) → StageKnown u (stage_after stays e)
         go (ending.Here b count) = stay b
-        go (ending.Over last) = record { away = h.away; ended = λ e some. let no : None ≡ Some e = sym h.epoch ∙ some in absurd cc }
+        go (ending.Over last) = back-behind t syn es h
 
   -- it is handed off
-  handed-move : (row : FrontRow) → p.row ≡ Some row → IsHeld t → IsEarlyHere row.epoch.0 → ArePast row.epoch.0 nodes → es ≡ [] → (s : Service) (path : List ℕ) (choice : FirstChoice) (calls : List Call) → Each IsStill s.notes
+  handed-move : (row : FrontRow) → p.row ≡ Some row → IsBack t → IsEarlyHere row.epoch.0 → ArePast row.epoch.0 nodes → es ≡ [] → (s : Service) (path : List ℕ) (choice : FirstChoice) (calls : List Call) → Each IsStill s.notes
       → Goes (Does (record { part = (handed_off env row s path choice).0; turn = (handed_off env row s path choice).1; calls = calls }))
   handed-move row found h early past none s path choice calls notes =
       let given : FrontPart × FrontTurn = handed_off env row s path choice in
@@ -187,37 +197,38 @@ module _ (k : Setting) (x : Conn) (at_place : IsPlaced x) (known : IsKnown x) (h
         first = (no-takes t).0 ∙ calm.first;
         off = inl (refl, spelled-head _ small);
         back = (no-takes t).1 ∙ calm.back;
+        up = tt;
         forth = calm.forth;
-        row = (r.0, ap (λ b. b || syn) r.1, record { away = refl; epoch = refl; node = refl; ended = undone });
-        ended = refl;
+        row = (r.0, ap (λ b. b || syn) r.1, record { away = refl; epoch = refl; node = refl; back = undone });
+        same_back = refl;
         kept = ((e + 1, spelled-head _ small), tt);
       }) where
         undecided : (o : Option BackRow) → IsPast row.epoch.0 o → IsDecided (row.epoch.0 + 1) o → ⊥
         undecided None q d = d
         undecided (Some b) q d = omega (arith, q.0, d)
 
-        -- no node told that it ended in the next epoch
-        undone : is_among (row.epoch.0 + 1) (t.ended ++ es) ≡ false
-        undone = go (is_among (row.epoch.0 + 1) (t.ended ++ es)) refl where
-          go : (b : Bool) → is_among (row.epoch.0 + 1) (t.ended ++ es) ≡ b → b ≡ false
+        -- it did not come back in the next epoch
+        undone : is_among (row.epoch.0 + 1) (t.back ++ es) ≡ false
+        undone = go (is_among (row.epoch.0 + 1) (t.back ++ es)) refl where
+          go : (b : Bool) → is_among (row.epoch.0 + 1) (t.back ++ es) ≡ b → b ≡ false
           go false f = refl
-          go true f = let some : SomeDecided (row.epoch.0 + 1) nodes = some_ended (row.epoch.0 + 1) f in absurd (undecided (nodes some.0).row (past some.0) some.1)
+          go true f = let some : SomeDecided (row.epoch.0 + 1) nodes = some_decided (row.epoch.0 + 1) f in absurd (undecided (nodes some.0).row (past some.0) some.1)
 
-  placed-move : (row : FrontRow) → p.row ≡ Some row → IsHeld t → IsEarlyHere row.epoch.0 → ArePast row.epoch.0 nodes → es ≡ [] → (rest : FrontRest) (s : Service) (path : List ℕ) (f : First) → Each IsStill s.notes
+  placed-move : (row : FrontRow) → p.row ≡ Some row → IsBack t → IsEarlyHere row.epoch.0 → ArePast row.epoch.0 nodes → es ≡ [] → (rest : FrontRest) (s : Service) (path : List ℕ) (f : First) → Each IsStill s.notes
       → Goes (Does (placed env p row rest s path f))
   placed-move row found h early past none rest s path (first.Go choice) notes = handed-move row found h early past none s path choice (call.First env.serve.c path env.now ∷ []) notes
   placed-move row found h early past none rest s path first.Waits notes =
       let w : Service = record s { notes = s.notes ++ rec.Waits env.serve.c ∷ [] } in
-      ends-move row found h (record rest { target = Some path }) stage.Waiting (λ b. held-behind h) (spoken env.serve w []) (call.First env.serve.c path env.now ∷ leaves_by env.serve.c (spoken env.serve w []).0)
+      ends-move row found h (record rest { target = Some path }) stage.Waiting (λ b. back-behind t syn es h) (spoken env.serve w []) (call.First env.serve.c path env.now ∷ leaves_by env.serve.c (spoken env.serve w []).0)
       (Each-append IsStill s.notes (rec.Waits env.serve.c ∷ []) notes (tt, tt)) (spoken-to env.serve w [] tt)
 
-  settled-move : (row : FrontRow) → p.row ≡ Some row → IsHeld t → IsEarlyHere row.epoch.0 → ArePast row.epoch.0 nodes → es ≡ [] → (rest : FrontRest) (s : Service) (o : Option (List ℕ)) → Each IsStill s.notes → Goes (settled_by env p row rest s o)
+  settled-move : (row : FrontRow) → p.row ≡ Some row → IsBack t → IsEarlyHere row.epoch.0 → ArePast row.epoch.0 nodes → es ≡ [] → (rest : FrontRest) (s : Service) (o : Option (List ℕ)) → Each IsStill s.notes → Goes (settled_by env p row rest s o)
   settled-move row found h early past none rest s None notes =
       let done = settled-is env.serve s in
-      ends-move row found h rest stage.Held (λ b. held-behind h) (serving_settled env.serve s) [] (subst (Each IsStill) (sym done.notes) notes) done.to
+      ends-move row found h rest stage.Held (λ b. back-behind t syn es h) (serving_settled env.serve s) [] (subst (Each IsStill) (sym done.notes) notes) done.to
   settled-move row found h early past none rest s (Some path) notes = placed-move row found h early past none rest s path (env.first path) notes
 
-  heard-move : (row : FrontRow) → p.row ≡ Some row → IsHeld t → IsEarlyHere row.epoch.0 → ArePast row.epoch.0 nodes → es ≡ [] → (rest : FrontRest) (b : ControlBlock) → Goes (heard env p row rest b)
+  heard-move : (row : FrontRow) → p.row ≡ Some row → IsBack t → IsEarlyHere row.epoch.0 → ArePast row.epoch.0 nodes → es ≡ [] → (rest : FrontRest) (b : ControlBlock) → Goes (heard env p row rest b)
   heard-move row found h early past none rest b =
       let r : Reading = front_reads env.serve (record { service = serving b rest.count []; target = None }) in
       settled-move row found h early past none rest r.service r.target (answers-still r.service.notes (reads-answers env.serve (record { service = serving b rest.count []; target = None }) tt))
@@ -225,7 +236,7 @@ module _ (k : Setting) (x : Conn) (at_place : IsPlaced x) (known : IsKnown x) (h
   -- ---- what is kept is as it was
 
   -- no row becomes another
-  same-row : (p.row ≡ None → syn ≡ false) → ((n e : ℕ) → IsAway t n e → is_among e (t.ended ++ es) ≡ false) → RowKnown u p.row
+  same-row : (p.row ≡ None → syn ≡ false) → ((n e : ℕ) → IsAway t n e → is_among e (t.back ++ es) ≡ false) → RowKnown u p.row
   same-row plain none = row-behind t syn es p.row plain none known.row
 
   drops-move : Calm [] → RowKnown u p.row → Goes Drops
@@ -235,14 +246,14 @@ module _ (k : Setting) (x : Conn) (at_place : IsPlaced x) (known : IsKnown x) (h
       → Goes (Says turn)
   says-move turn forwards calm row notes none messages to = calm-move p turn forwards calm (subst (Each IsStill) (sym notes) tt) none messages to row known.kept
 
-  -- ---- where no Ended comes
+  -- ---- where nothing brings it back
 
-  module _ (none_ended : es ≡ []) where
-    ends-none : [] ≡ first_end t es
-    ends-none = sym (no-end t) ∙ ap (first_end t) (sym none_ended)
+  module _ (no_back : es ≡ []) where
+    comes-none : [] ≡ first_back t es
+    comes-none = sym (none-back t) ∙ ap (first_back t) (sym no_back)
 
-    still-away : (n e : ℕ) → IsAway t n e → is_among e (t.ended ++ es) ≡ false
-    still-away n e h = ap (λ l. is_among e (t.ended ++ l)) none_ended ∙ ap (is_among e) (append-nil t.ended) ∙ h.ended
+    still-away : (n e : ℕ) → IsAway t n e → is_among e (t.back ++ es) ≡ false
+    still-away n e h = ap (λ l. is_among e (t.back ++ l)) no_back ∙ ap (is_among e) (append-nil t.back) ∙ h.back
 
     -- its row stays
     row-stays : (p.row ≡ None → syn ≡ false) → RowKnown u p.row
@@ -255,7 +266,7 @@ module _ (k : Setting) (x : Conn) (at_place : IsPlaced x) (known : IsKnown x) (h
     nothing-calm : segments ≡ [] → syn ≡ false → Calm []
     nothing-calm no_segments no_syn = record {
       first = sym (no-syn t) ∙ ap (first_syn t) (sym no_syn);
-      back = ends-none;
+      back = comes-none;
       forth = sym (no-forwards x.c t) ∙ ap (forwards_of x.c t) (sym no_segments);
     }
 
@@ -287,15 +298,20 @@ module _ (k : Setting) (x : Conn) (at_place : IsPlaced x) (known : IsKnown x) (h
           tells = refl;
           first = free ∙ sym now;
           off = tt;
-          back = ap (λ b. cond b (1 ∷ []) []) r.0 ∙ ends-none;
+          back = ap (λ b. cond b (1 ∷ []) []) r.0 ∙ comes-none;
+          up = (inl (ap (λ (e : ℕ). e + 1) (sym (first-gave (subst (Sits own nodes) none at_place.sits).0))), tt);
           forth = at-home r.2.away;
-          row = (refl, (λ i. r.1 i || plain i), go given.0 r.2.epoch);
-          ended = refl;
+          row = (refl, (λ i. r.1 i || plain i), go given.0 (back-behind t syn es r.2));
+          same_back = refl;
           kept = known.kept;
         }) where
-          go : (e : Ending) → t.epoch ≡ None → StageKnown (record u { took = true; away = false }) (stage_after stage.Held e)
-          go (ending.Here b count) none = record { away = refl; epoch = none }
-          go (ending.Over last) none = record { away = refl; ended = λ d some. let no : None ≡ Some d = sym none ∙ some in absurd cc }
+          go : (e : Ending) → IsBack u → StageKnown (record u { took = true; away = false }) (stage_after stage.Held e)
+          go (ending.Here b count) h = record { away = refl; back = h.back }
+          go (ending.Over last) h = record { away = refl; back = h.back }
+
+          -- nobody gave it up yet
+          first-gave : own ≡ unowned → last_gave x.seen ≡ 0
+          first-gave is = gave-last x at_place (ap (λ (w : Owning). w.owner) is) ∙ ap (λ (w : Owning). w.epoch) is
 
     met-move : (s : Segment) → p.row ≡ None → syn ≡ is_plain_syn s → Goes (met env p s)
     met-move s none plain =
@@ -304,7 +320,7 @@ module _ (k : Setting) (x : Conn) (at_place : IsPlaced x) (known : IsKnown x) (h
         (λ e. begun-move s none (plain ∙ e))
         (λ e.
         let no_syn : syn ≡ false = plain ∙ e in
-        drops-move (record { first = sym (no-syn t) ∙ ap (first_syn t) (sym no_syn); back = ends-none; forth = at-home r.2.away }) (row-stays (λ i. no_syn)))
+        drops-move (record { first = sym (no-syn t) ∙ ap (first_syn t) (sym no_syn); back = comes-none; forth = at-home r.2.away }) (row-stays (λ i. no_syn)))
 
     sits-row : (row : FrontRow) → p.row ≡ Some row → StageSits row.epoch.0 own nodes row.stage
     sits-row row found = let at : Sits own nodes (Some row) = subst (Sits own nodes) found at_place.sits in at.0
@@ -316,22 +332,22 @@ module _ (k : Setting) (x : Conn) (at_place : IsPlaced x) (known : IsKnown x) (h
           let sent : List (ℕ × List ℕ) = (n, message env.serve.c d.0 (body.Forward bytes)) ∷ [] in
           let mine : sent ≡ (n, message x.c d.0 (body.Forward bytes)) ∷ [] = ap (λ (c : ℕ). (n, message c d.0 (body.Forward bytes)) ∷ []) is.number in
           let due : forwards_of x.c t segments ≡ (n, message x.c d.0 (body.Forward bytes)) ∷ [] = λ i. cond (h.away i) (forwards_by x.c (h.node i) (h.epoch i) (comes i)) [] in
-          says-move turn sent (record { first = taken-first (row-of row found).1; back = ends-none; forth = mine ∙ sym due }) (row-stays (some-plain row found)) refl refl
+          says-move turn sent (record { first = taken-first (row-of row found).1; back = comes-none; forth = mine ∙ sym due }) (row-stays (some-plain row found)) refl refl
           (ap (λ o. listed o ++ []) (forwarded-is n env.serve.c d.0 bytes)) tt
 
-      tombstone-move : (row : FrontRow) → p.row ≡ Some row → IsOver t → (o : Option Segment) → Goes (Says (turn_here (tombstone env.serve o)))
-      tombstone-move row found h None = says-move (turn_here (tombstone env.serve None)) [] (record { first = taken-first (row-of row found).1; back = ends-none; forth = at-home h.away }) (row-stays (some-plain row found)) refl refl refl tt
-      tombstone-move row found h (Some s) = says-move (turn_here (tombstone env.serve (Some s))) [] (record { first = taken-first (row-of row found).1; back = ends-none; forth = at-home h.away }) (row-stays (some-plain row found)) refl refl refl
+      tombstone-move : (row : FrontRow) → p.row ≡ Some row → IsBack t → (o : Option Segment) → Goes (Says (turn_here (tombstone env.serve o)))
+      tombstone-move row found h None = says-move (turn_here (tombstone env.serve None)) [] (record { first = taken-first (row-of row found).1; back = comes-none; forth = at-home h.away }) (row-stays (some-plain row found)) refl refl refl tt
+      tombstone-move row found h (Some s) = says-move (turn_here (tombstone env.serve (Some s))) [] (record { first = taken-first (row-of row found).1; back = comes-none; forth = at-home h.away }) (row-stays (some-plain row found)) refl refl refl
           (ap Client is.number, tt)
 
       hears-at : (s : Segment) (row : FrontRow) → p.row ≡ Some row → (st : FrontConn) → row.stage ≡ st → Goes (hears_at env p row bytes s st)
       hears-at s row found (stage.Held b) at =
           let sits : StageSits row.epoch.0 own nodes (stage.Held b) = subst (StageSits row.epoch.0 own nodes) at (sits-row row found) in
-          heard-move row found (subst (StageKnown t) at (row-of row found).2) (early-at x at_place row found (stage.Held b) at) sits.1.1 none_ended (front_rest p.rest) (on_segment b s).1
+          heard-move row found (subst (StageKnown t) at (row-of row found).2) (early-at x at_place row found (stage.Held b) at) sits.1.1 no_back (front_rest p.rest) (on_segment b s).1
       hears-at s row found (stage.Waiting b) at =
           let w : Service = serving (on_segment b s).1 (front_rest p.rest).count [] in
-          let h : IsHeld t = subst (StageKnown t) at (row-of row found).2 in
-          ends-move row found h (front_rest p.rest) stage.Waiting (λ c. held-behind h) (spoken env.serve w []) (leaves_by env.serve.c (spoken env.serve w []).0) tt (spoken-to env.serve w [] tt)
+          let h : IsBack t = subst (StageKnown t) at (row-of row found).2 in
+          ends-move row found h (front_rest p.rest) stage.Waiting (λ c. back-behind t syn es h) (spoken env.serve w []) (leaves_by env.serve.c (spoken env.serve w []).0) tt (spoken-to env.serve w [] tt)
       hears-at s row found stage.Lent at = let sits : StageSits row.epoch.0 own nodes stage.Lent = subst (StageSits row.epoch.0 own nodes) at (sits-row row found) in absurd sits
       hears-at s row found (stage.Offering n d) at = forwards-move row n d found (subst (StageKnown t) at (row-of row found).2)
       hears-at s row found (stage.Moved n d) at = forwards-move row n d found (subst (StageKnown t) at (row-of row found).2)
@@ -353,7 +369,7 @@ module _ (k : Setting) (x : Conn) (at_place : IsPlaced x) (known : IsKnown x) (h
           let part : FrontPart = record p { row = Some (record row { stage = stage.Moved n (record { 0 = epoch }) }); kept = without timer.Offer 0 p.kept } in
           let r : RowKnown t (Some row) = row-of row found in
           let h : IsAway t n d.0 = subst (StageKnown t) at r.2 in
-          let away : IsAway u n d.0 = record { away = h.away; epoch = h.epoch; node = h.node; ended = still-away n d.0 h } in
+          let away : IsAway u n d.0 = record { away = h.away; epoch = h.epoch; node = h.node; back = still-away n d.0 h } in
           calm-move part (front_saying []) [] (nothing-calm no_segments no_syn) tt refl refl tt (r.0, ap (λ b. b || syn) r.1, subst (IsAway u n) same away) (without-kept p.kept known.kept)
 
       -- an Ask
@@ -375,12 +391,12 @@ module _ (k : Setting) (x : Conn) (at_place : IsPlaced x) (known : IsKnown x) (h
         fires = λ m. record {
           drops = nothing-drops no_segments no_syn;
           holds = λ row b at.
-              let h : IsHeld t = held-in row (stage.Held b) at in
-              ends-move row at.0 h (front_rest p.rest) stage.Held (λ c. held-behind h) (front_fired env (front_rest p.rest) b) [] tt (spoken-to env.serve (fired_service p b) (fired_before env b) (ready-to env.serve (after_timer b) (timed b)));
+              let h : IsBack t = held-in row (stage.Held b) at in
+              ends-move row at.0 h (front_rest p.rest) stage.Held (λ c. back-behind t syn es h) (front_fired env (front_rest p.rest) b) [] tt (spoken-to env.serve (fired_service p b) (fired_before env b) (ready-to env.serve (after_timer b) (timed b)));
           stays = λ row b at.
-              let h : IsHeld t = held-in row (stage.Waiting b) at in
+              let h : IsBack t = held-in row (stage.Waiting b) at in
               let given : Ending × Turn = front_fired env (front_rest p.rest) b in
-              ends-move row at.0 h (front_rest p.rest) stage.Waiting (λ c. held-behind h) given (leaves_by env.serve.c given.0) tt (spoken-to env.serve (fired_service p b) (fired_before env b) (ready-to env.serve (after_timer b) (timed b)));
+              ends-move row at.0 h (front_rest p.rest) stage.Waiting (λ c. back-behind t syn es h) given (leaves_by env.serve.c given.0) tt (spoken-to env.serve (fired_service p b) (fired_before env b) (ready-to env.serve (after_timer b) (timed b)));
           resends = λ row n d at. nothing-says no_segments no_syn (map sent_of p.kept) (resent-none p.kept known.kept);
         };
         takes = λ n epoch m row node d at same. taken-row row node d epoch at.0 at.1 same;
@@ -391,7 +407,7 @@ module _ (k : Setting) (x : Conn) (at_place : IsPlaced x) (known : IsKnown x) (h
         ends = λ n epoch last no row found away. absurd no;
         admits = λ choice made met row b path at target.
             let sits : StageSits row.epoch.0 own nodes (stage.Waiting b) = (of-stage (Sits own nodes) p row (stage.Waiting b) at at_place.sits).0 in
-            handed-move row at.0 (held-in row (stage.Waiting b) at) (early-at x at_place row at.0 (stage.Waiting b) at.1) sits.1.1 none_ended
+            handed-move row at.0 (held-in row (stage.Waiting b) at) (early-at x at_place row at.0 (stage.Waiting b) at.1) sits.1.1 no_back
             (serving b (front_rest p.rest).count []) path choice [] tt;
       }
 
@@ -401,13 +417,13 @@ module _ (k : Setting) (x : Conn) (at_place : IsPlaced x) (known : IsKnown x) (h
   -- ---- an Ended comes
 
   module _ (n epoch : ℕ) (comes : es ≡ epoch ∷ []) (no_segments : segments ≡ []) (no_syn : syn ≡ false) where
-    abbrev end_in : Option ℕ → List ℕ
-    end_in o = elim o as (λ q. List ℕ) [ None ↦ [] | Some e ↦ cond (not (is_among e t.ended) && is_among e (epoch ∷ [])) ((e + 1) ∷ []) [] ]
+    abbrev due_in : Option ℕ → List ℕ
+    due_in o = elim o as (λ q. List ℕ) [ None ↦ [] | Some e ↦ cond (not (is_among e t.back) && is_among e (epoch ∷ [])) ((e + 1) ∷ []) [] ]
 
-    end-is : first_end t es ≡ end_in t.epoch
-    end-is = ap (first_end t) comes
+    due-is : first_back t es ≡ due_in t.epoch
+    due-is = ap (first_back t) comes
 
-    no-away : IsHeld t → (m e : ℕ) → IsAway t m e → (P : Type 0) → P
+    no-away : IsBack t → (m e : ℕ) → IsAway t m e → (P : Type 0) → P
     no-away h m e a P = absurd (both_ways t.away h.away a.away)
 
     -- it is away in another epoch
@@ -417,37 +433,34 @@ module _ (k : Setting) (x : Conn) (at_place : IsPlaced x) (known : IsKnown x) (h
       go false f = refl
       go true f = absurd (both_ways (d.0 == epoch) e (eq-eqb d.0 epoch (sym (eqb-true epoch d.0 f))))
 
-    other-back : (m : ℕ) (d : Epoch) → IsAway t m d.0 → (d.0 == epoch) ≡ false → [] ≡ end_in t.epoch
+    other-back : (m : ℕ) (d : Epoch) → IsAway t m d.0 → (d.0 == epoch) ≡ false → [] ≡ first_back t es
     other-back m d h e =
-        let o : end_in t.epoch ≡ cond (not (is_among d.0 t.ended) && is_among d.0 (epoch ∷ [])) ((d.0 + 1) ∷ []) [] = ap end_in h.epoch in
-        sym (o ∙ (λ i. cond (not (h.ended i) && other-among d e i) ((d.0 + 1) ∷ []) []))
+        let o : due_in t.epoch ≡ cond (not (is_among d.0 t.back) && is_among d.0 (epoch ∷ [])) ((d.0 + 1) ∷ []) [] = ap due_in h.epoch in
+        sym (due-is ∙ o ∙ (λ i. cond (not (h.back i) && other-among d e i) ((d.0 + 1) ∷ []) []))
 
     -- the stage is not away in this epoch
-    stays-back : (st : FrontConn) → StageKnown t st → is_away epoch st ≡ false → [] ≡ end_in t.epoch
-    stays-back (stage.Held b) h e = ap end_in (sym h.epoch)
-    stays-back (stage.Waiting b) h e = ap end_in (sym h.epoch)
-    stays-back stage.Lent h e = ap end_in (sym h.epoch)
+    stays-back : (st : FrontConn) → StageKnown t st → is_away epoch st ≡ false → [] ≡ first_back t es
+    stays-back (stage.Held b) h e = was-back h
+    stays-back (stage.Waiting b) h e = was-back h
+    stays-back stage.Lent h e = was-back h
     stays-back (stage.Offering m d) h e = other-back m d h e
     stays-back (stage.Moved m d) h e = other-back m d h e
-    stays-back (stage.Closed last) h e = go t.epoch refl where
-      go : (o : Option ℕ) → t.epoch ≡ o → [] ≡ end_in o
-      go None f = refl
-      go (Some d) f = ap (λ b. cond (not b && is_among d (epoch ∷ [])) ((d + 1) ∷ []) []) (sym (h.ended d f))
+    stays-back (stage.Closed last) h e = was-back h
 
     away-same : (m i d e : ℕ) → IsAway t m d → IsAway t i e → d ≡ e
     away-same m i d e a b = some-same d e (sym a.epoch ∙ b.epoch) where
       some-same : (d e : ℕ) → Some d ≡ Some e → d ≡ e
       some-same d e f = cc
 
-    among-behind : (e : ℕ) → is_among e t.ended ≡ false → is_among e (epoch ∷ []) ≡ false → is_among e (t.ended ++ es) ≡ false
-    among-behind e a b = ap (λ l. is_among e (t.ended ++ l)) comes ∙ list_any-append (λ d. d == e) t.ended (epoch ∷ []) ∙ (λ i. a i || b i)
+    among-behind : (e : ℕ) → is_among e t.back ≡ false → is_among e (epoch ∷ []) ≡ false → is_among e (t.back ++ es) ≡ false
+    among-behind e a b = ap (λ l. is_among e (t.back ++ l)) comes ∙ list_any-append (λ d. d == e) t.back (epoch ∷ []) ∙ (λ i. a i || b i)
 
-    stays-away : (st : FrontConn) → StageKnown t st → is_away epoch st ≡ false → (i e : ℕ) → IsAway t i e → is_among e (t.ended ++ es) ≡ false
+    stays-away : (st : FrontConn) → StageKnown t st → is_away epoch st ≡ false → (i e : ℕ) → IsAway t i e → is_among e (t.back ++ es) ≡ false
     stays-away (stage.Held b) h f i e a = no-away h i e a _
     stays-away (stage.Waiting b) h f i e a = no-away h i e a _
     stays-away stage.Lent h f i e a = no-away h i e a _
-    stays-away (stage.Offering m d) h f i e a = subst (λ (j : ℕ). is_among j (t.ended ++ es) ≡ false) (away-same m i d.0 e h a) (among-behind d.0 h.ended (other-among d f))
-    stays-away (stage.Moved m d) h f i e a = subst (λ (j : ℕ). is_among j (t.ended ++ es) ≡ false) (away-same m i d.0 e h a) (among-behind d.0 h.ended (other-among d f))
+    stays-away (stage.Offering m d) h f i e a = subst (λ (j : ℕ). is_among j (t.back ++ es) ≡ false) (away-same m i d.0 e h a) (among-behind d.0 h.back (other-among d f))
+    stays-away (stage.Moved m d) h f i e a = subst (λ (j : ℕ). is_among j (t.back ++ es) ≡ false) (away-same m i d.0 e h a) (among-behind d.0 h.back (other-among d f))
     stays-away (stage.Closed last) h f i e a = absurd (both_ways t.away h.away a.away)
 
     no-forth : [] ≡ forwards_of x.c t segments
@@ -460,25 +473,29 @@ module _ (k : Setting) (x : Conn) (at_place : IsPlaced x) (known : IsKnown x) (h
     unknown-drops : p.row ≡ None → Goes Drops
     unknown-drops none =
         let r : RowKnown t None = subst (RowKnown t) none known.row in
-        drops-move (record { first = plain-first; back = unended r.2.epoch; forth = no-forth }) (same-row (λ e. no_syn) (λ m e a. no-away r.2 m e a _))
+        drops-move (record { first = plain-first; back = was-back r.2; forth = no-forth }) (same-row (λ e. no_syn) (λ m e a. no-away r.2 m e a _))
 
     stays-calm : (row : FrontRow) → p.row ≡ Some row → is_away epoch row.stage ≡ false → Calm [] × RowKnown u p.row
     stays-calm row found other =
         let r : RowKnown t (Some row) = row-of row found in
-        (record { first = plain-first; back = stays-back row.stage r.2 other ∙ sym end-is; forth = no-forth }, same-row (λ e. no_syn) (stays-away row.stage r.2 other))
+        (record { first = plain-first; back = stays-back row.stage r.2 other; forth = no-forth }, same-row (λ e. no_syn) (stays-away row.stage r.2 other))
+
+    come-now : (e : ℕ) → epoch ≡ e → is_among e (t.back ++ es) ≡ true
+    come-now e is = ap (λ l. is_among e (t.back ++ l)) comes ∙ list_any-append (λ d. d == e) t.back (epoch ∷ [])
+        ∙ ap (λ b. is_among e t.back || (b || false)) (eq-eqb epoch e is) ∙ or-true (is_among e t.back)
 
     ack-none : pick forward_to (map (sending Front) (ack_sent env n epoch)) ≡ []
     ack-none = ap (λ o. listed o ++ []) (not-forwarded n env.serve.c epoch body.EndedAck (λ i. cc))
 
     -- it ended where it is away
-    away-ends : (last : Final) (row : FrontRow) → p.row ≡ Some row → (m : ℕ) (d : Epoch) → IsAway t m d.0 → d.0 ≡ epoch → row.epoch.0 ≡ d.0 → Goes (Does (front_ends env p n epoch last row (next_epoch row)))
-    away-ends last row found m d h same at =
+    away-ends : (last : Final) (row : FrontRow) → p.row ≡ Some row → (m : ℕ) (d : Epoch) → IsAway t m d.0 → d.0 ≡ epoch → row.epoch.0 ≡ d.0 → own.epoch ≡ row.epoch.0 → Goes (Does (front_ends env p n epoch last row (next_epoch row)))
+    away-ends last row found m d h same at taken help =
         let did : Did = front_ends env p n epoch last row (next_epoch row) in
         let next : List ℕ = (row.epoch.0 + 1) ∷ [] in
         let then : Story = record u { took = true; away = false } in
         let r : RowKnown t (Some row) = row-of row found in
         let one : is_among d.0 (epoch ∷ []) ≡ true = ap (λ b. b || false) (eq-eqb epoch d.0 (sym same)) in
-        let due : end_in t.epoch ≡ (d.0 + 1) ∷ [] = ap end_in h.epoch ∙ (λ i. cond (not (h.ended i) && one i) ((d.0 + 1) ∷ []) []) in
+        let due : due_in t.epoch ≡ (d.0 + 1) ∷ [] = ap due_in h.epoch ∙ (λ i. cond (not (h.back i) && one i) ((d.0 + 1) ∷ []) []) in
         turns-move did.part did.turn next [] [] [] then (record {
           takes_are = refl;
           gives_are = refl;
@@ -488,27 +505,27 @@ module _ (k : Setting) (x : Conn) (at_place : IsPlaced x) (known : IsKnown x) (h
           tells = refl;
           first = ap (λ b. cond b [] next) r.0 ∙ taken-first r.1;
           off = tt;
-          back = ap (λ b. cond b next []) r.0 ∙ ap (λ (e : ℕ). (e + 1) ∷ []) at ∙ sym (end-is ∙ due);
+          back = ap (λ b. cond b next []) r.0 ∙ ap (λ (e : ℕ). (e + 1) ∷ []) at ∙ sym (due-is ∙ due);
+          up = (inl (ap (λ (e : ℕ). e + 1) (sym (gave-last x at_place help.owes.rows.0.2 ∙ taken))), tt);
           forth = no-forth;
-          row = (refl, ap (λ b. b || syn) r.1, record { away = refl; ended = λ e some. over e some });
-          ended = refl;
+          row = (refl, ap (λ b. b || syn) r.1, record { away = refl; back = λ e some. come-now e (sym same ∙ some-same d.0 e (sym h.epoch ∙ some)) });
+          same_back = refl;
           kept = without-kept p.kept known.kept;
-        }) where
+        }) help where
           some-same : (d e : ℕ) → Some d ≡ Some e → d ≡ e
           some-same d e f = cc
 
-          or-true : (b : Bool) → b || true ≡ true
-          or-true true = refl
-          or-true false = refl
-
-          over : (e : ℕ) → t.epoch ≡ Some e → is_among e (t.ended ++ es) ≡ true
-          over e some =
-              let it : epoch ≡ e = sym same ∙ some-same d.0 e (sym h.epoch ∙ some) in
-              ap (λ l. is_among e (t.ended ++ l)) comes ∙ list_any-append (λ i. i == e) t.ended (epoch ∷ []) ∙ ap (λ b. is_among e t.ended || (b || false)) (eq-eqb epoch e it) ∙ or-true (is_among e t.ended)
+    -- a node took it in this epoch
+    decider : SomeDecided epoch nodes
+    decider = some_decided epoch (come-now epoch refl)
 
     away-by : (last : Final) (row : FrontRow) → p.row ≡ Some row → (st : FrontConn) → row.stage ≡ st → is_away epoch st ≡ true → StageSits row.epoch.0 own nodes st → Goes (Does (front_ends env p n epoch last row (next_epoch row)))
-    away-by last row found (stage.Offering m d) at away sits = away-ends last row found m d (subst (StageKnown t) at (row-of row found).2) (eqb-true d.0 epoch away) (sym sits.1)
-    away-by last row found (stage.Moved m d) at away sits = away-ends last row found m d (subst (StageKnown t) at (row-of row found).2) (eqb-true d.0 epoch away) (sym sits.1)
+    away-by last row found (stage.Offering m d) at away sits =
+        let same : d.0 ≡ epoch = eqb-true d.0 epoch away in
+        away-ends last row found m d (subst (StageKnown t) at (row-of row found).2) same (sym sits.1)
+        (there-epoch m row.epoch.0 own (nodes m).row (decided-there m row.epoch.0 own nodes sits.2 decider.0 sits.3 (subst (λ (e : ℕ). IsDecided e (nodes decider.0).row) (sym same ∙ sits.1) decider.1)))
+    away-by last row found (stage.Moved m d) at away sits =
+        away-ends last row found m d (subst (StageKnown t) at (row-of row found).2) (eqb-true d.0 epoch away) (sym sits.1) (there-epoch m row.epoch.0 own (nodes m).row sits.3)
     away-by last row found _ at away sits = let no : false ≡ true = away in absurd cc
 
     ended-row : (last : Final) (row : FrontRow) → p.row ≡ Some row → Goes (front_ended_by env p n epoch last (Some row) (end_answer epoch (Some row)))

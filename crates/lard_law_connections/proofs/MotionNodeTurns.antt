@@ -1,14 +1,15 @@
 -- What each rule of a node makes of a connection's way.
-use Rattle.std.proofs.Common.{◌≡◌, ◌≢◌, ◌⊎◌, ◌≤◌, ◌<◌, ◌^◌, ◌==◌, max, nat_lt, nat_eq, ℕ, Bool, true, false, cond, List, [], ◌∷◌, ◌++◌, map, Option, Some, None, inl, inr, ⊎_elim, refl, sym, ap, ◌∙◌, subst, arith, eqb-true, eq-eqb}
+use Rattle.std.proofs.Common.{◌≡◌, ◌≢◌, ◌⊎◌, ◌+◌, ◌≤◌, ◌<◌, ◌^◌, ◌==◌, max, nat_lt, nat_eq, ℕ, Bool, true, false, cond, List, [], ◌∷◌, ◌++◌, map, Option, Some, None, inl, inr, ⊎_elim, refl, sym, ap, ◌∙◌, subst, arith, eqb-true, eq-eqb}
 use Rattle.std.proofs.lemmas.Bool.{both_ways, lt-ltb, ltb-true}
 use Rattle.std.proofs.lemmas.List.{map-append}
 use Rattle.lard_law_view.specs.Prelude.{Adopt, BackRow, Conn, ControlBlock, Ending, EndpointParts, IsEarlyAway, IsNodeEnv, Message, Move, Node, NodeDeed, NodeEnv, NodeGets, NodePart, Offered, Place, Rec, Seen, Setting, Stay, Turn, Work, after_timer, again_sent, all_sent, came_for, come_progress, ended_sent, epoch_in, goes_on, gone, is_no_node, kept_after, listed, named_records, node_does, node_offered, node_put_back, node_rule, node_saying, offer_answer, offered_by, on_segment, read_progress, reset_count, rows_of, seen_in, serving, serving_ready_of, serving_settled, spelled_message, spoken, tagged, taken_sent, tale_at, timed, timer_rows, turn_by, with_work, without, work_of}
 use Rattle.lard_base.specs.declared.place.TimerKind.TheVariants as timer
 use Rattle.lard_law_connections.specs.Motion.{EachIsTold, NodeEnds, Says as SaysIt, above}
 use Rattle.lard_law_connections.specs.MotionStory.{from_node, highest, node_gave_epoch, node_took, of_row, epoch_offered, picked}
-use Rattle.lard_law_connections.proofs.MotionElsewhere.{Helps}
+use Rattle.lard_law_connections.proofs.MotionElsewhere.{AreNextUp, Helps}
+use Rattle.lard_law_connections.proofs.MotionEpochs.{gave-last}
 use Rattle.lard_law_connections.proofs.MotionPicking.{pick, pick-append, pick-none, pick-parts, pick-seen}
-use Rattle.lard_law_connections.specs.Places.{Head, IsDecided, IsEven, IsOffered, Owning, owning}
+use Rattle.lard_law_connections.specs.Places.{Head, IsComing, IsDecided, IsEven, IsOffered, Owning, owning}
 use Rattle.lard_law_connections.proofs.PlacesHeads.{spelled-head}
 use Rattle.lard_law_connections.proofs.PlacesLoops.{came-notes, goes-notes, settled-is, tagged-notes}
 use Rattle.lard_law_connections.proofs.PlacesNodeRules.{Begins, begun-notes, begun_work, has-here, new-below, not-decided, plain-more, took_by}
@@ -27,7 +28,7 @@ use Rattle.lard_rules.proofs.NodeCases.{IsHereWith, IsInItsEpoch, KeptByNode, no
 use Rattle.lard_rules.specs.Node.{Drops, Says, Does}
 use Rattle.lard_rules.specs.declared.places.Ending.TheVariants as ending
 use Rattle.lard_law_connections.proofs.MotionNodes.{At, IsFirst, IsOther, IsOfNodes, NodesGo, NodesKnown, max-none, nodes-go, other-at, quiet-at, seen-gave, seen-offers, seen-took}
-use Rattle.lard_law_connections.proofs.PlacesWithNode.{offered-away}
+use Rattle.lard_law_connections.proofs.PlacesWithNode.{offered-away, offered-coming}
 
 -- ---- plain notes take nothing
 
@@ -122,11 +123,12 @@ module _ (k : Setting) (x : Conn) (at_place : IsPlaced x) (known : NodesKnown x)
       let rows : SaysIt h (pick (from_node n) (rows_of x v)) = subst (SaysIt h) (sym (pick-parts (from_node n) x v))
       (says-behind h _ (pick (from_node n) (timer_rows (Node n) x.c x.part v.part)) (says-before h _ (pick (from_node n) (map (sending (Node n)) (msgs ++ end))) told)) in
       let all : SaysIt h (picked (of_row (from_node n)) (seen_in x v)) = subst (SaysIt h) (sym (pick-seen (from_node n) x v)) (says-before h (picked (of_row (from_node n)) heads) (pick (from_node n) (rows_of x v)) rows) in
-      subst (λ (l : List ℕ). EachIsTold l (picked (of_row (from_node n)) (seen_in x v))) (sym (seen-gave n x v mine first (env.epoch ∷ []) gave)) (all, tt)
+      subst (λ (l : List ℕ). EachIsTold l (picked (of_row (from_node n)) (seen_in x v))) (sym (seen-gave n x v mine first (env.epoch ∷ []) gave)) (inl all, tt)
 
   turn-go : (part : NodePart) (before_sent : List (Place × List ℕ)) (work : Work) (given : Ending × Turn) (takes : List ℕ) → IsEven env.epoch → IsEarlyAway env.epoch → pick (node_took n) (named_records given.1.notes) ≡ takes
-      → (is_no_node k.nodes n ≡ false → takes ≡ above before (picked (epoch_offered n) heads)) → max before (highest takes) ≡ env.epoch → Goes (Does (kept_after env part work given.0, turn_by env before_sent work given))
-  turn-go part before_sent work given takes even early took due then help =
+      → (is_no_node k.nodes n ≡ false → takes ≡ above before (picked (epoch_offered n) heads)) → max before (highest takes) ≡ env.epoch
+      → AreNextUp x (node_does x n heads (Does (kept_after env part work given.0, turn_by env before_sent work given))) takes → Goes (Does (kept_after env part work given.0, turn_by env before_sent work given))
+  turn-go part before_sent work given takes even early took due then up help =
       let q : NodePart = kept_after env part work given.0 in
       let v : Move = node_does x n heads (Does (q, turn_by env before_sent work given)) in
       by-own v help.own refl refl (put-other q) (record {
@@ -134,6 +136,7 @@ module _ (k : Setting) (x : Conn) (at_place : IsPlaced x) (known : NodesKnown x)
         takes_are = seen-took n x v help.own first takes took;
         due = λ there. due there ∙ ap (above before) (sym (seen-offers n x v help.own first (picked (epoch_offered n) heads) refl));
         ends = gave-told part before_sent work given early help.own;
+        up = up;
         then = then ∙ sym (ap epoch_in (put-same nodes n q) ∙ kept-epoch part work given.0);
         late = subst (λ (p : NodePart). IsOfNodes p.row) (sym (put-same nodes n q)) (kept-late part work given.0 even);
       })
@@ -165,7 +168,7 @@ module _ (k : Setting) (x : Conn) (at_place : IsPlaced x) (known : NodesKnown x)
 
     plain-go : IsHere → (part : NodePart) (before_sent : List (Place × List ℕ)) (work : Work) (given : Ending × Turn) → Each IsPlain given.1.notes → Goes (Does (kept_after env part work given.0, turn_by env before_sent work given))
     plain-go it part before_sent work given plain = turn-go part before_sent work given [] it.even it.early (plains-took n (named_records given.1.notes) (plain-named given.1.notes plain))
-        (λ there. ap (above before) (sym none)) (max-none before ∙ known.highest_is n ∙ it.now)
+        (λ there. ap (above before) (sym none)) (max-none before ∙ known.highest_is n ∙ it.now) tt
 
     works-go : IsHere → (part : NodePart) (work : Work) → Each IsPlain work.service.notes → Goes (with_work env part [] (goes_on env work))
     works-go it part work plain =
@@ -225,6 +228,7 @@ module _ (k : Setting) (x : Conn) (at_place : IsPlaced x) (known : NodesKnown x)
           takes_are = seen-took n x v mine firsts [] took;
           due = λ there. sym (ap (above before) offers ∙ ap (λ (b : Bool). cond b (env.epoch ∷ []) []) (ap (λ (h : ℕ). nat_lt h env.epoch) (known.highest_is n) ∙ old));
           ends = subst (λ (l : List ℕ). EachIsTold l (picked (of_row (from_node n)) (seen_in x v))) (sym (seen-gave n x v mine firsts [] gave)) tt;
+          up = tt;
           then = max-none before ∙ known.highest_is n ∙ sym (ap epoch_in same);
           late = subst (λ (p : NodePart). IsOfNodes p.row) (sym same) (known.late n);
         }
@@ -239,8 +243,11 @@ module _ (k : Setting) (x : Conn) (at_place : IsPlaced x) (known : NodesKnown x)
     abbrev IsAwayNow : Type 0
     IsAwayNow = IsEven env.epoch × IsEarlyAway env.epoch
 
+    undecided-offered : (IsDecided env.epoch ours.row → ⊥) → IsOffered n env.epoch x.part.front.row
+    undecided-offered other = ⊎_elim (λ (d : IsDecided env.epoch ours.row). absurd (other d)) (λ (o : IsOffered n env.epoch x.part.front.row). o) said
+
     undecided-away : (IsDecided env.epoch ours.row → ⊥) → IsAwayNow
-    undecided-away other = offered-away x at_place n env.epoch (⊎_elim (λ (d : IsDecided env.epoch ours.row). absurd (other d)) (λ (o : IsOffered n env.epoch x.part.front.row). o) said)
+    undecided-away other = offered-away x at_place n env.epoch (undecided-offered other)
 
     -- what the node had is of an earlier epoch, where the Offer is new
     below : (o : Option BackRow) → offer_answer env.epoch o ≡ New → IsAwayNow → epoch_in (record ours { row = o }) < env.epoch
@@ -250,7 +257,9 @@ module _ (k : Setting) (x : Conn) (at_place : IsPlaced x) (known : NodesKnown x)
     -- the node takes it
     new-go : offer_answer env.epoch ours.row ≡ New → Goes (offered_by env parts ours New)
     new-go new =
-        let away : IsAwayNow = undecided-away (not-decided env.epoch ours.row new) in
+        let fresh : IsDecided env.epoch ours.row → ⊥ = not-decided env.epoch ours.row new in
+        let away : IsAwayNow = undecided-away fresh in
+        let coming : IsComing env.epoch own ours.row = offered-coming x at_place n env.epoch (undecided-offered fresh) fresh in
         let work : Work = begun_work env parts in
         let given : Ending × Turn = serving_settled env.serve work.service in
         let all : Begins (took_by env) given.1.notes = begun-notes env parts in
@@ -261,6 +270,7 @@ module _ (k : Setting) (x : Conn) (at_place : IsPlaced x) (known : NodesKnown x)
         let over : before < env.epoch = let less : epoch_in ours < env.epoch = below ours.row new away in omega (arith, known.highest_is n, less) in
         turn-go ours (taken_sent env) work given (env.epoch ∷ []) away.0 away.1 takes
         (λ there. sym (ap (above before) comes ∙ ap (λ (b : Bool). cond b (env.epoch ∷ []) []) (lt-ltb before env.epoch over))) (omega (arith, over))
+        (inl (sym coming.1 ∙ ap (λ (e : ℕ). e + 1) (sym (gave-last x at_place coming.0))), tt)
 
     -- where it is not, no stay of an earlier epoch is there
     not-below : (o : Option BackRow) → ours.row ≡ o → (offer_answer env.epoch o ≡ New → ⊥) → nat_lt (epoch_in (record ours { row = o })) env.epoch ≡ false

@@ -1,8 +1,9 @@
 -- What each rule makes of a connection's way at the nodes.
 use Rattle.std.proofs.Common.{◌≡◌, ◌≢◌, max, ℕ, false, cond, List, [], ◌∷◌, ◌++◌, map, Option, Some, None, refl, sym, ap, ◌∙◌, subst, arith, append-nil}
 use Rattle.lard_law_view.specs.Prelude.{BackRow, Came, Client, Conn, Front, Move, Node, NodePart, Place, Rec, Row, Seen, epoch_in, grown, is_no_node, rows_of, seen_in}
-use Rattle.lard_law_connections.specs.Motion.{EachIsTold, NodeEnds, NodeTakes, above}
+use Rattle.lard_law_connections.specs.Motion.{EachIsTold, NodeEnds, NodeTakes, StepsUp, above}
 use Rattle.lard_law_connections.specs.MotionStory.{from_node, highest, node_gave_epoch, node_took, of_row, epoch_offered, picked}
+use Rattle.lard_law_connections.proofs.MotionElsewhere.{AreNextUp}
 use Rattle.lard_law_connections.proofs.MotionPicking.{came-none, pick, pick-none, pick-seen, picked-append, picked-none, IsNoGift, pick-given, pick-noted}
 use Rattle.lard_law_view.proofs.Fine.{IsItsOwn}
 use Rattle.lard_law_view.proofs.Saying.{GaveAt, NotedAt}
@@ -28,6 +29,7 @@ pub record NodesKnown (x : Conn) : Type 0 where
 pub record NodesMove (nodes : ℕ) (past step : List Seen) : Type 0 where
   pub takes : (n : ℕ) → is_no_node nodes n ≡ false → NodeTakes n past step
   pub ends : (n : ℕ) → NodeEnds n step
+  pub ups : (n : ℕ) → StepsUp (node_took n) past step
 
 abbrev pub NodesGo : ℕ → Conn → Move → Type 0
 NodesGo nodes x v = NodesMove nodes x.seen (seen_in x v) × NodesKnown (grown x v)
@@ -40,6 +42,7 @@ pub record At (nodes : ℕ) (x : Conn) (v : Move) (n : ℕ) : Type 0 where
   pub takes_are : picked (of_row (node_took n)) (seen_in x v) ≡ takes
   pub due : is_no_node nodes n ≡ false → takes ≡ above (highest (picked (of_row (node_took n)) x.seen)) (picked (epoch_offered n) (seen_in x v))
   pub ends : NodeEnds n (seen_in x v)
+  pub up : AreNextUp x v takes
   pub then : max (highest (picked (of_row (node_took n)) x.seen)) (highest takes) ≡ epoch_in (v.part.nodes n)
   pub late : IsOfNodes (v.part.nodes n).row
 
@@ -49,7 +52,7 @@ highest-append (x ∷ xs) ys = let e = highest-append xs ys in omega (arith, e)
 
 pub nodes-go : (nodes : ℕ) (x : Conn) (v : Move) → ((n : ℕ) → At nodes x v n) → NodesGo nodes x v
 nodes-go nodes x v at = (
-  record { takes = λ n there. (at n).takes_are ∙ (at n).due there; ends = λ n. (at n).ends },
+  record { takes = λ n there. (at n).takes_are ∙ (at n).due there; ends = λ n. (at n).ends; ups = λ n. subst (AreNextUp x v) (sym (at n).takes_are) (at n).up },
   record {
     highest_is = λ n. ap highest (picked-append (of_row (node_took n)) x.seen (seen_in x v) ∙ ap (λ l. picked (of_row (node_took n)) x.seen ++ l) (at n).takes_are)
         ∙ highest-append (picked (of_row (node_took n)) x.seen) (at n).takes ∙ (at n).then;
@@ -124,6 +127,7 @@ quiet-at nodes n x v own known first offers took gave same late = record {
   takes_are = seen-took n x v own first [] took;
   due = λ there. ap (above (highest (picked (of_row (node_took n)) x.seen))) (sym (seen-offers n x v own first [] offers));
   ends = subst (λ (l : List ℕ). EachIsTold l (picked (of_row (from_node n)) (seen_in x v))) (sym (seen-gave n x v own first [] gave)) tt;
+  up = tt;
   then = max-none (highest (picked (of_row (node_took n)) x.seen)) ∙ known.highest_is n ∙ sym same;
   late = late;
 }

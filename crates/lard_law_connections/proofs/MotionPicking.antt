@@ -3,7 +3,7 @@ use Rattle.std.proofs.Common.{◌≡◌, ℕ, ◌||◌, Bool, true, false, List,
 use Rattle.std.proofs.lemmas.List.Sums.{fold-append}
 use Rattle.std.specs.List.{fold, list_any}
 use Rattle.lard_law_view.specs.Prelude.{Came, Client, Conn, Front, Move, Node, Part, Place, Rec, Row, Seen, listed, rows_of, seen_in, timer_rows}
-use Rattle.lard_law_connections.specs.MotionStory.{Story, ended_in, ended_on, first_node, front_gave_epoch, front_took, is_syn_in, of_row, picked, row_step, segment_in, segment_on, story, story_step, syn_on, untold_story}
+use Rattle.lard_law_connections.specs.MotionStory.{Story, back_in, first_node, front_gave_epoch, front_took, is_back, is_syn_in, of_row, picked, row_step, segment_in, segment_on, story, story_step, syn_on, told_of, untold_story}
 use Rattle.lard_law_view.specs.View.{sending}
 use Rattle.lard_history.proofs.Each.{Each, Each-weaker}
 use Rattle.lard_journal.specs.declared.rec.Rec.TheVariants as rec
@@ -193,10 +193,10 @@ story-grown x v =
 
 -- ---- what is seen first
 
--- it tells nothing: no segment, no Ended, and no record of the way
+-- it tells nothing: no segment, nothing that brings the connection back, and no record of the way
 abbrev pub IsApart : ℕ → Seen → Type 0
 IsApart c (Row r) = IsStill r
-IsApart c (Came l) = (segment_on c l.from l.to l.bytes ≡ None) × (syn_on c l.from l.to l.bytes ≡ false) × (ended_on l.from l.to l.bytes ≡ None)
+IsApart c (Came l) = (segment_on c l.from l.to l.bytes ≡ None) × (syn_on c l.from l.to l.bytes ≡ false) × (told_of is_back l.from l.to l.bytes ≡ None)
 
 pub or-false : (b : Bool) → b || false ≡ b
 or-false true = refl
@@ -205,7 +205,7 @@ or-false false = refl
 apart-step : (c : ℕ) (t : Story) (s : Seen) → IsApart c s → story_step c t s ≡ t
 apart-step c t (Row r) h = still-step t r h
 apart-step c t (Came l) h =
-    λ i. record t { syn = (ap (λ b. t.syn || b) h.1 ∙ or-false t.syn) i; ended = (ap (λ o. t.ended ++ listed o) h.2 ∙ append-nil t.ended) i }
+    λ i. record t { syn = (ap (λ b. t.syn || b) h.1 ∙ or-false t.syn) i; back = (ap (λ o. t.back ++ listed o) h.2 ∙ append-nil t.back) i }
 
 pub apart-story : (c : ℕ) (t : Story) (ss : List Seen) → Each (IsApart c) ss → fold (story_step c) t ss ≡ t
 apart-story c t [] h = refl
@@ -224,9 +224,9 @@ apart-segments c ss h = picked-none (segment_in c) ss (Each-weaker (IsApart c) (
   one (Row r) h = refl
   one (Came l) h = h.0
 
-pub apart-ended : (c : ℕ) (ss : List Seen) → Each (IsApart c) ss → picked ended_in ss ≡ []
-apart-ended c ss h = picked-none ended_in ss (Each-weaker (IsApart c) (λ s. ended_in s ≡ None) one ss h) where
-  one : (s : Seen) → IsApart c s → ended_in s ≡ None
+pub apart-back : (c : ℕ) (ss : List Seen) → Each (IsApart c) ss → picked back_in ss ≡ []
+apart-back c ss h = picked-none back_in ss (Each-weaker (IsApart c) (λ s. back_in s ≡ None) one ss h) where
+  one : (s : Seen) → IsApart c s → back_in s ≡ None
   one (Row r) h = refl
   one (Came l) h = h.2
 

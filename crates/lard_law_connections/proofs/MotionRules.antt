@@ -3,11 +3,11 @@ use Rattle.std.proofs.Common.{◌≡◌, ◌≢◌, ◌⊎◌, ◌||◌, ℕ, Bo
 use Rattle.std.proofs.lemmas.Bool.{both_ways}
 use Rattle.std.proofs.lemmas.List.Folds.{list_any-append}
 use Rattle.lard_base.specs.declared.event.Event.TheVariants as event
-use Rattle.lard_law_view.specs.Prelude.{AskedBy, BackRow, Body, Client, ClientBlock, ClientRules, Completed, Conn, Content, EndedBy, Fires, Forwarded, Front, FrontAdmits, FrontEnv, FrontFires, FrontGets, FrontHears, IsForFront, IsForNode, IsFrontEnv, IsNobody, IsNodeEnv, IsUnheard, MayRestOn, Message, Move, MsgFault, Node, NodeEnv, NodeGets, Offered, Place, Rec, Row, Rules, Said as Segment, Seen, SegFault, Setting, Station, ToCluster, Turn, Was, client_begins, client_does, client_injects, client_opens, client_rule, content_said, decoded, decoded_message, event_seen, front_does, front_rule, inject_seen, is_no_node, kind_of, letter, listed, node_does, node_read, node_rule, nothing_said, packet_seen, reads_first, rows_of, seen_in, stands}
+use Rattle.lard_law_view.specs.Prelude.{AskedBy, BackRow, Client, ClientBlock, ClientRules, Completed, Conn, Content, EndedBy, Fires, Forwarded, Front, FrontAdmits, FrontEnv, FrontFires, FrontGets, FrontHears, IsForFront, IsForNode, IsFrontEnv, IsNobody, IsNodeEnv, IsUnheard, Kind, MayRestOn, Message, Move, MsgFault, Node, NodeEnv, NodeGets, Offered, Place, Rec, Row, Rules, Said as Segment, Seen, SegFault, Setting, Station, ToCluster, Turn, Was, client_begins, client_does, client_injects, client_opens, client_rule, content_said, decoded, decoded_message, event_seen, front_does, front_rule, inject_seen, is_no_node, kind_of, letter, listed, node_does, node_read, node_rule, nothing_said, packet_seen, reads_first, rows_of, seen_in, stands}
 use Rattle.lard_law_view.proofs.EachClient.{client_seen, each-client, of-client}
 use Rattle.lard_law_view.proofs.EachFront.{FrontComes, admission, each-front, of-front}
 use Rattle.lard_law_connections.specs.Motion.{EachIsTold, above}
-use Rattle.lard_law_connections.specs.MotionStory.{Story, decoded_bytes, ended_epoch, ended_on, from_node, highest, is_among, is_syn, node_took, offer_epoch, epoch_offered, offer_on, of_row, picked, segment_on, story, syn_on}
+use Rattle.lard_law_connections.specs.MotionStory.{Story, decoded_bytes, epoch_if, epoch_offered, from_node, highest, is_among, is_back, is_offer, is_syn, node_took, of_row, offer_on, picked, segment_on, story, syn_on, told_of}
 use Rattle.lard_law_connections.proofs.MotionElsewhere.{Helps, IsBare, IsKnown, IsNotOfClient, Moves, SomeDecided, else-moves, machine-letters, quiet-moves}
 use Rattle.lard_law_connections.proofs.MotionFronts as fronts
 use Rattle.lard_law_connections.proofs.MotionComings.{Heads}
@@ -15,9 +15,10 @@ use Rattle.lard_law_connections.proofs.MotionNodes.{IsFirst, NodesGo, NodesKnown
 use Rattle.lard_law_connections.proofs.MotionNodeTurns as turns
 use Rattle.lard_law_view.proofs.NodeHeads.{of-heads}
 use Rattle.lard_law_connections.proofs.MotionPicking.{IsApart, or-false, pick, picked-append}
-use Rattle.lard_law_connections.specs.Places.{IsDecided, IsOffered, IsOver}
+use Rattle.lard_law_connections.specs.Places.{IsDecided, IsOffered, IsOver, LetterMay, MaySay, NodeSaid}
 use Rattle.lard_law_connections.proofs.PlacesFrontMessages.{came-says}
 use Rattle.lard_law_connections.proofs.PlacesFrontRules.{has-each}
+use Rattle.lard_law_connections.proofs.PlacesHeads.{decoded-head}
 use Rattle.lard_law_connections.proofs.PlacesTurns.{IsPlaced, Owes}
 use Rattle.lard_law_view.proofs.EachNode.{Answers, Aside, Brings, NodeComes, Queues, aside_said, aside_seen, each-node, job_notes, node_goes, told_first}
 use Rattle.lard_law_view.proofs.Fine.{IsItsOwn}
@@ -25,6 +26,7 @@ use Rattle.lard_rules.specs.Front as front
 use Rattle.lard_history.proofs.Each.{Each, Each-append}
 use Rattle.lard_history.proofs.Seeing.{other_number, same_number}
 use Rattle.lard_journal.specs.declared.rec.Rec.TheVariants as rec
+use Rattle.lard_message.specs.declared.kind.Kind.TheVariants as kind
 use Rattle.lard_message.specs.declared.message.Body.TheVariants as body
 use Rattle.lard_rules.proofs.NodeCases.{IsInItsEpoch}
 use Rattle.lard_rules.specs.Node as node
@@ -80,57 +82,57 @@ module _ (x : Conn) where
   abbrev t : Story
   t = story x.c x.seen
 
-  same-story : t ≡ record t { syn = t.syn || false; ended = t.ended ++ [] }
-  same-story = λ i. record t { syn = sym (or-false t.syn) i; ended = sym (append-nil t.ended) i }
+  same-story : t ≡ record t { syn = t.syn || false; back = t.back ++ [] }
+  same-story = λ i. record t { syn = sym (or-false t.syn) i; back = sym (append-nil t.back) i }
 
   timer-heads : Heads x (event_seen (event.Timer Front x.c)) false [] []
-  timer-heads = record { bare = ((tt, tt), tt); syn_is = refl; ends_are = refl; segments_are = refl; tells = same-story }
+  timer-heads = record { bare = ((tt, tt), tt); syn_is = refl; comes_are = refl; segments_are = refl; tells = same-story }
 
   no-heads : Heads x [] false [] []
-  no-heads = record { bare = tt; syn_is = refl; ends_are = refl; segments_are = refl; tells = same-story }
+  no-heads = record { bare = tt; syn_is = refl; comes_are = refl; segments_are = refl; tells = same-story }
 
   segment-heads : (bytes : List ℕ) (r : Result Segment SegFault) → decoded bytes x.c ToCluster ≡ r → Heads x (packet_seen (Client x.c) Front bytes) (is_syn r) [] (listed (decoded_bytes bytes r))
   segment-heads bytes r e = record {
     bare = (tt, tt);
     syn_is = or-false (is_syn (decoded bytes x.c ToCluster)) ∙ ap is_syn e;
-    ends_are = refl;
+    comes_are = refl;
     segments_are = append-nil (listed (decoded_bytes bytes (decoded bytes x.c ToCluster))) ∙ ap (λ q. listed (decoded_bytes bytes q)) e;
-    tells = λ i. record t { syn = t.syn || is_syn (e i); ended = t.ended ++ [] };
+    tells = λ i. record t { syn = t.syn || is_syn (e i); back = t.back ++ [] };
   }
 
-  message-heads : (n : ℕ) (bytes : List ℕ) (o : Option ℕ) → ended_epoch (decoded_message bytes) ≡ o → Heads x (packet_seen (Node n) Front bytes) false (listed o) []
+  message-heads : (n : ℕ) (bytes : List ℕ) (o : Option ℕ) → epoch_if is_back (decoded_message bytes) ≡ o → Heads x (packet_seen (Node n) Front bytes) false (listed o) []
   message-heads n bytes o e = record {
     bare = (tt, tt);
     syn_is = refl;
-    ends_are = append-nil (listed (ended_epoch (decoded_message bytes))) ∙ ap listed e;
+    comes_are = append-nil (listed (epoch_if is_back (decoded_message bytes))) ∙ ap listed e;
     segments_are = refl;
-    tells = λ i. record t { syn = t.syn || false; ended = t.ended ++ listed (e i) };
+    tells = λ i. record t { syn = t.syn || false; back = t.back ++ listed (e i) };
   }
 
   calm-heads : (env : FrontEnv) (heads : List Seen) (g : FrontGets) → fronts.IsCalm g → FrontComes x env heads g → Heads x heads false [] []
   calm-heads env heads (FrontHears bytes given) calm comes = absurd calm
   calm-heads env heads FrontFires calm comes = subst (λ (hs : List Seen). Heads x hs false [] []) (sym comes.seen) timer-heads
   calm-heads env heads (AskedBy n epoch ask) calm comes =
-      subst (λ (hs : List Seen). Heads x hs false [] []) (sym comes.told.seen) (message-heads n comes.told.bytes None (ap ended_epoch comes.told.spells))
+      subst (λ (hs : List Seen). Heads x hs false [] []) (sym comes.told.seen) (message-heads n comes.told.bytes None (ap (epoch_if is_back) comes.told.spells))
   calm-heads env heads (EndedBy n epoch last) calm comes = absurd calm
   calm-heads env heads (FrontAdmits choice given) calm comes = subst (λ (hs : List Seen). Heads x hs false [] []) (sym comes.seen) no-heads
   calm-heads env heads g calm comes =
-      subst (λ (hs : List Seen). Heads x hs false [] []) (sym comes.seen) (message-heads _ comes.bytes None (ap ended_epoch comes.spells))
+      subst (λ (hs : List Seen). Heads x hs false [] []) (sym comes.seen) (message-heads _ comes.bytes None (ap (epoch_if is_back) comes.spells))
 
-  -- each Ended that came was told by a node that took it
-  still-ended : (known : IsKnown x) (e : ℕ) → is_among e (t.ended ++ []) ≡ true → SomeDecided e x.part.nodes
-  still-ended known e among = known.ended e (ap (is_among e) (sym (append-nil t.ended)) ∙ among)
+  -- each epoch in which it came back is one in which a node took it
+  still-decided : (known : IsKnown x) (e : ℕ) → is_among e (t.back ++ []) ≡ true → SomeDecided e x.part.nodes
+  still-decided known e among = known.back e (ap (is_among e) (sym (append-nil t.back)) ∙ among)
 
   over-decided : (e : ℕ) (o : Option BackRow) → IsOver e o → IsDecided e o
   over-decided e None h = h
   over-decided e (Some row) h = h.0
 
-  also-ended : (known : IsKnown x) (n epoch : ℕ) → IsOver epoch (x.part.nodes n).row
-      → (e : ℕ) → is_among e (t.ended ++ epoch ∷ []) ≡ true → SomeDecided e x.part.nodes
-  also-ended known n epoch over e among = go (is_among e t.ended) refl (epoch == e) refl
-      (sym (list_any-append (λ d. d == e) t.ended (epoch ∷ [])) ∙ among) where
-        go : (a : Bool) → is_among e t.ended ≡ a → (b : Bool) → (epoch == e) ≡ b → a || (b || false) ≡ true → SomeDecided e x.part.nodes
-        go true f b g h = known.ended e f
+  also-decided : (known : IsKnown x) (n epoch : ℕ) → IsOver epoch (x.part.nodes n).row
+      → (e : ℕ) → is_among e (t.back ++ epoch ∷ []) ≡ true → SomeDecided e x.part.nodes
+  also-decided known n epoch over e among = go (is_among e t.back) refl (epoch == e) refl
+      (sym (list_any-append (λ d. d == e) t.back (epoch ∷ [])) ∙ among) where
+        go : (a : Bool) → is_among e t.back ≡ a → (b : Bool) → (epoch == e) ≡ b → a || (b || false) ≡ true → SomeDecided e x.part.nodes
+        go true f b g h = known.back e f
         go false f true g h = (n, subst (λ (d : ℕ). IsDecided d (x.part.nodes n).row) (eqb-true epoch e g) (over-decided epoch (x.part.nodes n).row over))
         go false f false g h = let no : false ≡ true = h in absurd cc
 
@@ -145,20 +147,20 @@ module _ (k : Setting) (x : Conn) where
       → Helps x (front_does x heads (front_rule env x.part.front g)) → Moves x (front_does x heads (front_rule env x.part.front g))
   front-moves env is heads (FrontHears bytes (Err fault)) comes may way = fronts.nothing-drops k x may.given way.front heads false [] []
       (subst (λ (hs : List Seen). Heads x hs false [] []) (sym comes.seen) (segment-heads x bytes (Err fault) (sym comes.read)))
-      env is (still-ended x way.front) refl refl refl
+      env is (still-decided x way.front) refl refl refl
   front-moves env is heads (FrontHears bytes (Ok s)) comes may way = fronts.hears-move k x may.given way.front heads (is_syn (Ok s)) [] (bytes ∷ [])
       (subst (λ (hs : List Seen). Heads x hs (is_syn (Ok s)) [] (bytes ∷ [])) (sym comes.seen) (segment-heads x bytes (Ok s) (sym comes.read)))
-      env is (still-ended x way.front)
+      env is (still-decided x way.front)
       refl bytes refl s refl x.part.front.row refl
   front-moves env is heads (EndedBy n epoch last) comes may way =
       let e = comes.told in
       fronts.ended-move k x may.given way.front heads false (epoch ∷ []) []
-      (subst (λ (hs : List Seen). Heads x hs false (epoch ∷ []) []) (sym e.seen) (message-heads x n e.bytes (Some epoch) (ap ended_epoch e.spells))) env is
-      (also-ended x way.front n epoch (came-says x (Node n) Front epoch (body.Ended last.reason last.snd.0 last.rcv.0 comes.count)
+      (subst (λ (hs : List Seen). Heads x hs false (epoch ∷ []) []) (sym e.seen) (message-heads x n e.bytes (Some epoch) (ap (epoch_if is_back) e.spells))) env is
+      (also-decided x way.front n epoch (came-says x (Node n) Front epoch (body.Ended last.reason last.snd.0 last.rcv.0 comes.count)
       e.bytes may.given.letters e.was e.spells))
       n epoch refl refl refl last
   front-moves env is heads g comes may way = fronts.rule-move k x may.given way.front heads false [] [] (calm-heads x env heads g tt comes) env is
-      (still-ended x way.front) refl refl refl g tt (admission x env heads g comes)
+      (still-decided x way.front) refl refl refl g tt (admission x env heads g comes)
 
   no-offers-here : (from : Place) (bytes : List ℕ) (n : ℕ) → picked (epoch_offered n) (packet_seen from Front bytes) ≡ []
   no-offers-here Front bytes n = refl
@@ -193,14 +195,14 @@ module _ (k : Setting) (x : Conn) (n : ℕ) where
 
   -- no other node hears what comes to this one
   others-unheard : (from : Place) (bytes : List ℕ) (m : ℕ) → m ≢ n → picked (epoch_offered m) (packet_seen from (Node n) bytes) ≡ []
-  others-unheard Front bytes m other = append-nil (listed (cond (nat_eq n m) (offer_epoch (decoded_message bytes)) None)) ∙ ap (λ b. listed (cond b (offer_epoch (decoded_message bytes)) None)) (other_number n m (λ e. other (sym e)))
+  others-unheard Front bytes m other = append-nil (listed (cond (nat_eq n m) (epoch_if is_offer (decoded_message bytes)) None)) ∙ ap (λ b. listed (cond b (epoch_if is_offer (decoded_message bytes)) None)) (other_number n m (λ e. other (sym e)))
   others-unheard (Node j) bytes m other = refl
   others-unheard (Client d) bytes m other = refl
 
   -- what comes to it from the front end
-  this-hears : (bytes : List ℕ) (o : Option ℕ) → offer_epoch (decoded_message bytes) ≡ o → picked (epoch_offered n) (packet_seen Front (Node n) bytes) ≡ listed o
+  this-hears : (bytes : List ℕ) (o : Option ℕ) → epoch_if is_offer (decoded_message bytes) ≡ o → picked (epoch_offered n) (packet_seen Front (Node n) bytes) ≡ listed o
   this-hears bytes o e =
-      append-nil (listed (cond (nat_eq n n) (offer_epoch (decoded_message bytes)) None)) ∙ ap (λ b. listed (cond b (offer_epoch (decoded_message bytes)) None)) (same_number n) ∙ ap listed e
+      append-nil (listed (cond (nat_eq n n) (epoch_if is_offer (decoded_message bytes)) None)) ∙ ap (λ b. listed (cond b (epoch_if is_offer (decoded_message bytes)) None)) (same_number n) ∙ ap listed e
 
   -- what comes to a node is nothing of the way
   packet-apart : (from : Place) (bytes : List ℕ) → Each (IsApart x.c) (packet_seen from (Node n) bytes)
@@ -225,7 +227,7 @@ module _ (k : Setting) (x : Conn) (n : ℕ) where
       let first : Seen = Row (rec.Read n n x.c r path) in
       let u : Move = reads_first (rec.Read n n x.c r path) v in
       let is : seen_in x u ≡ first ∷ seen_in x v = ap (λ hs. hs ++ first ∷ map Row (rows_of x v)) none ∙ ap (λ hs. first ∷ (hs ++ map Row (rows_of x v))) (sym none) in (
-        subst (λ (ss : List Seen). NodesMove k.nodes x.seen ss) (sym is) (record { takes = h.0.takes; ends = h.0.ends }),
+        subst (λ (ss : List Seen). NodesMove k.nodes x.seen ss) (sym is) (record { takes = h.0.takes; ends = h.0.ends; ups = h.0.ups }),
         record {
           highest_is = λ m.
               ap highest (ap (λ ss. picked (of_row (node_took m)) (x.seen ++ ss)) is ∙ picked-append (of_row (node_took m)) x.seen (first ∷ seen_in x v) ∙ sym (picked-append (of_row (node_took m)) x.seen (seen_in x v)))
@@ -241,11 +243,11 @@ module _ (k : Setting) (x : Conn) (n : ℕ) where
     no-offers : (g : NodeGets) → NodeComes x n epoch heads g → turns.IsNoOffer g → picked (epoch_offered n) heads ≡ []
     no-offers (Offered parts) comes other = absurd other
     no-offers (Forwarded given) comes other = ap (picked (epoch_offered n)) comes.came.seen
-        ∙ this-hears comes.came.bytes None (ap offer_epoch comes.came.spells)
+        ∙ this-hears comes.came.bytes None (ap (epoch_if is_offer) comes.came.spells)
     no-offers (Content from r) comes other = ap (picked (epoch_offered n)) comes.came.seen
     no-offers (Completed r path) comes other = ap (picked (epoch_offered n)) comes
     no-offers Fires comes other = ap (picked (epoch_offered n)) comes.seen
-    no-offers g comes other = ap (picked (epoch_offered n)) comes.seen ∙ this-hears comes.bytes None (ap offer_epoch comes.spells)
+    no-offers g comes other = ap (picked (epoch_offered n)) comes.seen ∙ this-hears comes.bytes None (ap (epoch_if is_offer) comes.spells)
 
     heads-at : (d : node.NodeDeed) → (node_does x n heads d).heads ≡ heads
     heads-at node.Drops = refl
@@ -257,7 +259,7 @@ module _ (k : Setting) (x : Conn) (n : ℕ) where
           → NodesGo k.nodes x (node_goes x n env heads g)
       goes-nodes (Offered parts) at comes help =
           turns.offered-go k x may.given way.nodes n epoch env is heads first others parts
-          (ap (picked (epoch_offered n)) comes.seen ∙ this-hears comes.bytes (Some epoch) (ap offer_epoch comes.spells)
+          (ap (picked (epoch_offered n)) comes.seen ∙ this-hears comes.bytes (Some epoch) (ap (epoch_if is_offer) comes.spells)
           ∙ ap (λ (e : ℕ). e ∷ []) (sym is.epoch_is))
           (subst (λ (e : ℕ). IsDecided e (x.part.nodes n).row ⊎ IsOffered n e x.part.front.row) (sym is.epoch_is)
           (came-says x Front (Node n) epoch (body.Offer parts) comes.bytes may.given.letters comes.was comes.spells)) help
@@ -304,24 +306,34 @@ module _ (k : Setting) (x : Conn) (n : ℕ) where
 -- ---- a packet that no rule hears
 
 module _ (k : Setting) (x : Conn) (from to : Place) (bytes : List ℕ) where
-  -- it is no Ended
-  no-ended : (n : ℕ) → ((m : Message) → decoded_message bytes ≡ Ok m → IsForFront (kind_of m.body) → ⊥) → ended_epoch (decoded_message bytes) ≡ None
-  no-ended n other = go (decoded_message bytes) refl where
-    body-of : (m : Message) → decoded_message bytes ≡ Ok m → (b : Body) → m.body ≡ b → ended_epoch (Ok (record m { body = b })) ≡ None
-    body-of m e (body.Ended reason snd rcv count) is = absurd (other m e (subst (λ (b : Body). IsForFront (kind_of b)) (sym is) tt))
-    body-of m e _ is = refl
+  -- What brings a connection back is an Ended, since no node says anything else of it.
+  only-ended : IsPlaced x → (n : ℕ) → Was x (Node n) Front bytes → (m : Message) → decoded_message bytes ≡ Ok m → is_back (kind_of m.body) ≡ true → kind_of m.body ≡ kind.Ended
+  only-ended placed n was m is back =
+      of-kind (kind_of m.body) back (subst (MaySay x.part (Node n) Front) (decoded-head bytes m is) (has-each (LetterMay x.part) (record { from = Node n; to = Front; bytes = bytes }) x.letters was placed.letters)) where
+        of-kind : (k : Kind) → is_back k ≡ true → NodeSaid (x.part.nodes n).row m.epoch.0 k → k ≡ kind.Ended
+        of-kind kind.Ended back said = refl
+        of-kind kind.Refused back said = absurd said
+        of-kind kind.Give back said = absurd said
+        of-kind _ back said = let no : false ≡ true = back in absurd cc
 
-    go : (r : Result Message MsgFault) → decoded_message bytes ≡ r → ended_epoch r ≡ None
+  -- so what is not heard does not bring it back
+  none-comes : IsPlaced x → (n : ℕ) → Was x (Node n) Front bytes → ((m : Message) → decoded_message bytes ≡ Ok m → IsForFront (kind_of m.body) → ⊥) → epoch_if is_back (decoded_message bytes) ≡ None
+  none-comes placed n was other = go (decoded_message bytes) refl where
+    by-kind : (m : Message) → decoded_message bytes ≡ Ok m → (b : Bool) → is_back (kind_of m.body) ≡ b → cond b (Some m.epoch.0) None ≡ None
+    by-kind m e true back = absurd (other m e (subst IsForFront (sym (only-ended placed n was m e back)) tt))
+    by-kind m e false back = refl
+
+    go : (r : Result Message MsgFault) → decoded_message bytes ≡ r → epoch_if is_back r ≡ None
     go (Err fault) e = refl
-    go (Ok m) e = body-of m e m.body refl
+    go (Ok m) e = by-kind m e (is_back (kind_of m.body)) refl
 
-  unheard-apart : IsKnown x → Was x from to bytes → IsUnheard k.nodes x.part.station from to bytes → Each (IsApart x.c) (packet_seen from to bytes)
-  unheard-apart known was unheard = (one from to was unheard, tt) where
-    one : (from to : Place) → Was x from to bytes → IsUnheard k.nodes x.part.station from to bytes → (segment_on x.c from to bytes ≡ None) × (syn_on x.c from to bytes ≡ false) × (ended_on from to bytes ≡ None)
+  unheard-apart : IsPlaced x → IsKnown x → Was x from to bytes → IsUnheard k.nodes x.part.station from to bytes → Each (IsApart x.c) (packet_seen from to bytes)
+  unheard-apart placed known was unheard = (one from to was unheard, tt) where
+    one : (from to : Place) → Was x from to bytes → IsUnheard k.nodes x.part.station from to bytes → (segment_on x.c from to bytes ≡ None) × (syn_on x.c from to bytes ≡ false) × (told_of is_back from to bytes ≡ None)
     one (Client d) Front w none = absurd (has-each IsNotOfClient (record { from = Client d; to = Front; bytes = bytes }) x.letters w (known.fresh none))
     one (Client d) (Client e) w u = (refl, refl, refl)
     one (Client d) (Node m) w u = (refl, refl, refl)
-    one (Node n) Front w u = (refl, refl, no-ended n u)
+    one (Node n) Front w u = (refl, refl, none-comes placed n w u)
     one (Node n) (Client e) w u = (refl, refl, refl)
     one (Node n) (Node m) w u = (refl, refl, refl)
     one Front Front w u = (refl, refl, refl)
@@ -331,21 +343,21 @@ module _ (k : Setting) (x : Conn) (from to : Place) (bytes : List ℕ) where
   -- no Offer comes to a node that is there
   no-offer : (n : ℕ) → IsUnheard k.nodes x.part.station from to bytes → is_no_node k.nodes n ≡ false → picked (epoch_offered n) (packet_seen from to bytes) ≡ []
   no-offer n unheard there = append-nil (listed (offer_on n from to bytes)) ∙ ap listed (one from to unheard) where
-    by-number : (m : ℕ) → ((msg : Message) → decoded_message bytes ≡ Ok msg → IsForNode (kind_of msg.body) → is_no_node k.nodes m ≡ true) → (b : Bool) → nat_eq m n ≡ b → cond b (offer_epoch (decoded_message bytes)) None ≡ None
+    by-number : (m : ℕ) → ((msg : Message) → decoded_message bytes ≡ Ok msg → IsForNode (kind_of msg.body) → is_no_node k.nodes m ≡ true) → (b : Bool) → nat_eq m n ≡ b → cond b (epoch_if is_offer (decoded_message bytes)) None ≡ None
     by-number m unheard false e = refl
     by-number m unheard true e = go (decoded_message bytes) refl where
       same : m ≡ n
       same = eqb-true m n e
 
-      body-of : (msg : Message) → decoded_message bytes ≡ Ok msg → (b : Body) → msg.body ≡ b → offer_epoch (Ok (record msg { body = b })) ≡ None
-      body-of msg f (body.Offer parts) is =
-          let none : is_no_node k.nodes n ≡ true = ap (is_no_node k.nodes) (sym same) ∙ unheard msg f (subst (λ (b : Body). IsForNode (kind_of b)) (sym is) tt) in
+      by-kind : (msg : Message) → decoded_message bytes ≡ Ok msg → (j : Kind) → kind_of msg.body ≡ j → cond (is_offer j) (Some msg.epoch.0) None ≡ None
+      by-kind msg f kind.Offer is =
+          let none : is_no_node k.nodes n ≡ true = ap (is_no_node k.nodes) (sym same) ∙ unheard msg f (subst IsForNode (sym is) tt) in
           absurd (both_ways (is_no_node k.nodes n) there none)
-      body-of msg f _ is = refl
+      by-kind msg f _ is = refl
 
-      go : (r : Result Message MsgFault) → decoded_message bytes ≡ r → offer_epoch r ≡ None
+      go : (r : Result Message MsgFault) → decoded_message bytes ≡ r → epoch_if is_offer r ≡ None
       go (Err fault) f = refl
-      go (Ok msg) f = body-of msg f msg.body refl
+      go (Ok msg) f = by-kind msg f (kind_of msg.body) refl
 
     one : (from to : Place) → IsUnheard k.nodes x.part.station from to bytes → offer_on n from to bytes ≡ None
     one Front (Node m) u = by-number m u (nat_eq m n) refl
@@ -359,7 +371,7 @@ module _ (k : Setting) (x : Conn) (from to : Place) (bytes : List ℕ) where
       let v : Move = stands x to (packet_seen from to bytes) nothing_said in
       let known : IsKnown x = way.front in (
         quiet-moves x v help known (record {
-          heads = unheard-apart known was.0 was.2;
+          heads = unheard-apart help.placed known was.0 was.2;
           bare = (tt, tt);
           notes = tt;
           gave = tt;
@@ -374,6 +386,7 @@ module _ (k : Setting) (x : Conn) (from to : Place) (bytes : List ℕ) where
           takes_are = seen-took n x v help.own (tt, tt) [] refl;
           due = λ there. ap (above (highest (picked (of_row (node_took n)) x.seen))) (sym (seen-offers n x v help.own (tt, tt) [] (no-offer n was.2 there)));
           ends = subst (λ (l : List ℕ). EachIsTold l (picked (of_row (from_node n)) (seen_in x v))) (sym (seen-gave n x v help.own (tt, tt) [] refl)) tt;
+          up = tt;
           then = max-none (highest (picked (of_row (node_took n)) x.seen)) ∙ way.nodes.highest_is n;
           late = way.nodes.late n;
         }),

@@ -1,10 +1,10 @@
 -- The motion law in every run.
-use Rattle.std.proofs.Common.{ℕ, List, [], refl, sym, ◌∙◌}
+use Rattle.std.proofs.Common.{◌≡◌, ℕ, List, [], Some, None, refl, sym, ◌∙◌}
 use Rattle.lard_law_view.specs.Prelude.{Config, Conn, IsLaw, IsStepLaw, MayRestOn, Move, OfEach, Rules, Seen, Setting, grown, seen_in, setting, with_leaving}
 use Rattle.lard_law_connections.specs.Motion.{IsMotion, MustMove}
 use Rattle.lard_law_connections.specs.MotionRuns.{ConnectionsMoveInSteps}
 use Rattle.lard_law_connections.specs.MotionStory.{Story, story}
-use Rattle.lard_law_connections.proofs.MotionElsewhere.{FrontMoves, Helps, no-end, no-forwards, no-syn, no-takes}
+use Rattle.lard_law_connections.proofs.MotionElsewhere.{FrontMoves, Helps, no-forwards, no-syn, no-takes, none-back}
 use Rattle.lard_law_connections.proofs.MotionNodes.{NodesMove}
 use Rattle.lard_law_connections.proofs.MotionRules.{Goes, Way, all-go}
 use Rattle.lard_law_connections.proofs.PlacesLaw.{owing}
@@ -24,7 +24,9 @@ nothing-moves nodes c past =
       hands_off = tt;
       node_takes = λ n there. refl;
       node_ends = λ n. tt;
-      takes_back = (no-takes t).1 ∙ sym (no-end t);
+      takes_back = (no-takes t).1 ∙ sym (none-back t);
+      steps_up = tt;
+      node_steps_up = λ n. tt;
       forwards = sym (no-forwards c t);
     }
 
@@ -44,7 +46,7 @@ module _ (k : Setting) where
   way-law : IsLaw k IsPlaced Way
   way-law = record {
     begins = λ c. record {
-      front = record { row = (refl, refl, record { away = refl; epoch = refl }); ended = λ e among. absurd cc; kept = tt; fresh = λ none. tt };
+      front = record { row = (refl, refl, record { away = refl; back = λ e is. let no : None ≡ Some e = is in absurd cc }); back = λ e among. absurd cc; kept = tt; fresh = λ none. tt };
       nodes = record { highest_is = λ n. refl; late = λ n. tt };
     };
     moves = weaker k All (λ x v. MayRestOn IsPlaced x → Way x → Way (grown x v))
@@ -64,7 +66,16 @@ module _ (k : Setting) where
         let gone = h.1 placed may.given.1 (helped x v h placed) in
         let front : FrontMoves x.c x.seen (seen_in x v) = gone.0.0 in
         let nodes : NodesMove k.nodes x.seen (seen_in x v) = gone.1.0 in
-        record { takes_first = front.takes_first; hands_off = front.hands_off; node_takes = nodes.takes; node_ends = nodes.ends; takes_back = front.takes_back; forwards = front.forwards }) all;
+        record {
+          takes_first = front.takes_first;
+          hands_off = front.hands_off;
+          node_takes = nodes.takes;
+          node_ends = nodes.ends;
+          takes_back = front.takes_back;
+          steps_up = front.steps_up;
+          node_steps_up = nodes.ups;
+          forwards = front.forwards;
+        }) all;
   }
 
 -- what is known of the way of each connection, in every state

@@ -52,7 +52,7 @@ over-decided : (e : ℕ) (o : Option BackRow) → IsOver e o → IsDecided e o
 over-decided e None h = h
 over-decided e (Some row) h = h.0
 
-there-epoch : (n e : ℕ) (w : Owning) (o : Option BackRow) → IsThere n e w o → w.epoch ≡ e
+pub there-epoch : (n e : ℕ) (w : Owning) (o : Option BackRow) → IsThere n e w o → w.epoch ≡ e
 there-epoch n e w None h = absurd h
 there-epoch n e w (Some row) h = h.1
 

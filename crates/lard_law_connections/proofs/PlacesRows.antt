@@ -43,7 +43,7 @@ OwnsBy c w (r ∷ rs) = MayOwnBy c w r × OwnsBy c (after w r) rs
 abbrev pub after_all : Owning → List Rec → Owning
 after_all w rs = fold after w rs
 
-one-step : (c : ℕ) (t : Tale) (r : Rec) → MayStand c t r → owning (tale_step c t r) ≡ after (owning t) r
+pub one-step : (c : ℕ) (t : Tale) (r : Rec) → MayStand c t r → owning (tale_step c t r) ≡ after (owning t) r
 one-step c t (rec.Took place d epoch) h =
     let mine : nat_eq d c ≡ true = subst (λ (n : ℕ). nat_eq n c ≡ true) (sym h.0) (same_number c) in
     λ i. record { owner = cond (mine i) (Some place) t.owner; epoch = cond (mine i) epoch.0 t.epoch }

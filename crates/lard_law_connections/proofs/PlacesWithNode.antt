@@ -1,8 +1,8 @@
 -- With whom the front end has a connection that is at a node.
-use Rattle.std.proofs.Common.{◌≡◌, ◌⊎◌, ◌==◌, ℕ, Bool, true, false, Option, Some, None, refl, sym, ◌∙◌, subst, eqb-true, eq-eqb, inl, inr, ⊎_elim}
-use Rattle.lard_law_connections.specs.Places.{IsComing, IsEven, IsOffered, IsPast, IsThere, Offers, Owning, Sits, StageSits, owning}
+use Rattle.std.proofs.Common.{◌≡◌, ◌⊎◌, ◌==◌, ℕ, Bool, true, false, Option, Some, None, refl, sym, ◌∙◌, subst, arith, eqb-true, eq-eqb, inl, inr, ⊎_elim}
+use Rattle.lard_law_connections.specs.Places.{IsComing, IsDecided, IsEven, IsOffered, IsPast, IsThere, Offers, Owning, Sits, StageSits, owning}
 use Rattle.lard_law_connections.proofs.PlacesTurns.{IsPlaced, early-at}
-use Rattle.lard_law_view.specs.Prelude.{Conn, ControlBlock, FrontConn, FrontRow, IsEarlyAway, tale_at}
+use Rattle.lard_law_view.specs.Prelude.{BackRow, Conn, ControlBlock, FrontConn, FrontRow, IsEarlyAway, tale_at}
 use Rattle.lard_handoff_back.specs.declared.row.BackConn.TheVariants as back
 use Rattle.lard_handoff_front.specs.declared.row.FrontConn.TheVariants as stage
 
@@ -50,6 +50,29 @@ with-node x placed n e b row = go x.part.front.row refl placed.sits where
   go : (o : Option FrontRow) → x.part.front.row ≡ o → Sits w x.part.nodes o → IsWithNode x n e
   go None found h = absurd (past 0 (h.1 n))
   go (Some fr) found h = at-stage fr found fr.stage refl h.0
+
+-- until the node decides, an Offer is on its way
+pub offered-coming : (x : Conn) → IsPlaced x → (n e : ℕ) → IsOffered n e x.part.front.row → (IsDecided e (x.part.nodes n).row → ⊥) → IsComing e (owning (tale_at x)) (x.part.nodes n).row
+offered-coming x placed n e offered other = go x.part.front.row refl offered where
+  w : Owning
+  w = owning (tale_at x)
+
+  there-epoch : (o : Option BackRow) → IsThere n e w o → IsDecided e o
+  there-epoch None h = h
+  there-epoch (Some row) h = omega (arith, h.0)
+
+  at-stage : (row : FrontRow) → x.part.front.row ≡ Some row → (st : FrontConn) → row.stage ≡ st → Offers n e st → IsComing e w (x.part.nodes n).row
+  at-stage row found (stage.Offering m d) at offers =
+      let sits : StageSits row.epoch.0 w x.part.nodes (stage.Offering m d) = subst (StageSits row.epoch.0 w x.part.nodes) at (subst (Sits w x.part.nodes) found placed.sits).0 in
+      let same : row.epoch.0 ≡ e = sym sits.1 ∙ offers.1 in
+      ⊎_elim (λ (c : IsComing e w (x.part.nodes n).row). c) (λ (c : IsThere n e w (x.part.nodes n).row). absurd (other (there-epoch (x.part.nodes n).row c)))
+      (subst (λ (i : ℕ). IsComing e w (x.part.nodes i).row ⊎ IsThere i e w (x.part.nodes i).row) offers.0
+      (subst (λ (f : ℕ). IsComing f w (x.part.nodes m).row ⊎ IsThere m f w (x.part.nodes m).row) same sits.3))
+  at-stage row found _ at offers = absurd offers
+
+  go : (o : Option FrontRow) → x.part.front.row ≡ o → IsOffered n e o → IsComing e w (x.part.nodes n).row
+  go None found offers = absurd offers
+  go (Some row) found offers = at-stage row found row.stage refl offers
 
 -- what is offered is so in an epoch of nodes, and early
 pub offered-away : (x : Conn) → IsPlaced x → (n e : ℕ) → IsOffered n e x.part.front.row → IsEven e × IsEarlyAway e

@@ -1,11 +1,10 @@
 -- What a connection sees of its way: the packets by which it moves, and the records that tell of it.
 use Rattle.std.specs.Prelude.{ℕ, ◌+◌, ◌||◌, ◌==◌, nat_eq, max, Bool, true, false, if◌then◌else◌, List, [], ◌∷◌, ◌++◌, Option, Some, None, Result, Ok, Err}
 use Rattle.std.specs.List.{fold, list_any}
-use Rattle.lard_law_view.specs.Prelude.{Body, Came, Client, Front, Kind, Message, MsgFault, Node, Place, Rec, Row, Said, Seen, SegFault, ToCluster, decoded, decoded_message, is_plain_syn, listed}
+use Rattle.lard_law_view.specs.Prelude.{Came, Client, Front, Kind, Message, MsgFault, Node, Place, Rec, Row, Said, Seen, SegFault, ToCluster, decoded, decoded_message, is_plain_syn, kind_of, listed, seen_step}
 use Rattle.lard_law_connections.specs.Places.{Head, message_head}
 use Rattle.lard_journal.specs.declared.rec.Rec.TheVariants as rec
 use Rattle.lard_message.specs.declared.kind.Kind.TheVariants as kind
-use Rattle.lard_message.specs.declared.message.Body.TheVariants as body
 
 -- what is picked of each thing that is seen, in order
 abbrev pub picked : {A : Type 0} → (Seen → Option A) → List Seen → List A
@@ -32,32 +31,34 @@ abbrev pub syn_on : ℕ → Place → Place → List ℕ → Bool
 syn_on c (Client d) Front bytes = is_syn (decoded bytes c ToCluster)
 syn_on c _ _ bytes = false
 
--- the epoch of a message, where it is an Offer
-abbrev pub offer_said : ℕ → Body → Option ℕ
-offer_said epoch (body.Offer parts) = Some epoch
-offer_said epoch _ = None
+-- an Offer; what brings a connection back to the front end; and of these a Refused alone
+abbrev pub is_offer : Kind → Bool
+is_offer kind.Offer = true
+is_offer _ = false
 
-abbrev pub offer_epoch : Result Message MsgFault → Option ℕ
-offer_epoch (Err fault) = None
-offer_epoch (Ok m) = offer_said m.epoch.0 m.body
+abbrev pub is_back : Kind → Bool
+is_back kind.Ended = true
+is_back kind.Give = true
+is_back kind.Refused = true
+is_back _ = false
 
--- and where it is an Ended
-abbrev pub ended_said : ℕ → Body → Option ℕ
-ended_said epoch (body.Ended reason snd rcv count) = Some epoch
-ended_said epoch _ = None
+abbrev pub is_refused : Kind → Bool
+is_refused kind.Refused = true
+is_refused _ = false
 
-abbrev pub ended_epoch : Result Message MsgFault → Option ℕ
-ended_epoch (Err fault) = None
-ended_epoch (Ok m) = ended_said m.epoch.0 m.body
+-- the epoch of a message, where it is of such a kind
+abbrev pub epoch_if : (Kind → Bool) → Result Message MsgFault → Option ℕ
+epoch_if is (Err fault) = None
+epoch_if is (Ok m) = if is (kind_of m.body) then Some m.epoch.0 else None
 
--- the epoch of an Offer that comes to node n, and that of an Ended that comes to the front end
+-- the epoch of an Offer that comes to node n, and that of a message that comes from a node to the front end
 abbrev pub offer_on : ℕ → Place → Place → List ℕ → Option ℕ
-offer_on n Front (Node m) bytes = if nat_eq m n then offer_epoch (decoded_message bytes) else None
+offer_on n Front (Node m) bytes = if nat_eq m n then epoch_if is_offer (decoded_message bytes) else None
 offer_on n _ _ bytes = None
 
-abbrev pub ended_on : Place → Place → List ℕ → Option ℕ
-ended_on (Node n) Front bytes = ended_epoch (decoded_message bytes)
-ended_on _ _ bytes = None
+abbrev pub told_of : (Kind → Bool) → Place → Place → List ℕ → Option ℕ
+told_of is (Node n) Front bytes = epoch_if is (decoded_message bytes)
+told_of is _ _ bytes = None
 
 abbrev pub segment_in : ℕ → Seen → Option (List ℕ)
 segment_in c (Row r) = None
@@ -71,9 +72,14 @@ abbrev pub epoch_offered : ℕ → Seen → Option ℕ
 epoch_offered n (Row r) = None
 epoch_offered n (Came l) = offer_on n l.from l.to l.bytes
 
-abbrev pub ended_in : Seen → Option ℕ
-ended_in (Row r) = None
-ended_in (Came l) = ended_on l.from l.to l.bytes
+-- that of each Ended, Give or Refused, and that of each Refused
+abbrev pub back_in : Seen → Option ℕ
+back_in (Row r) = None
+back_in (Came l) = told_of is_back l.from l.to l.bytes
+
+abbrev pub refused_in : Seen → Option ℕ
+refused_in (Row r) = None
+refused_in (Came l) = told_of is_refused l.from l.to l.bytes
 
 -- ---- records
 
@@ -95,7 +101,7 @@ abbrev pub node_gave_epoch : ℕ → Rec → Option ℕ
 node_gave_epoch n (rec.Gave (Node m) c epoch) = if nat_eq m n then Some epoch.0 else None
 node_gave_epoch n _ = None
 
--- the node to which the first request is assigned
+-- the node of a first assignment
 abbrev pub first_node : Rec → Option ℕ
 first_node (rec.AssignedFirst c r path n add remove) = Some n
 first_node _ = None
@@ -134,11 +140,11 @@ pub record Story : Type 0 where
   pub took : Bool  -- it took the connection
   pub away : Bool  -- it gave it up, and did not take it again
   pub epoch : Option ℕ  -- that of the connection since it gave it up
-  pub node : Option ℕ  -- that of its first assignment
-  pub ended : List ℕ  -- the epochs of each Ended that came to it
+  pub node : Option ℕ  -- that of the last first assignment
+  pub back : List ℕ  -- the epochs of each Ended, Give or Refused that came to it
 
 abbrev pub untold_story : Story
-untold_story = record { syn = false; took = false; away = false; epoch = None; node = None; ended = [] }
+untold_story = record { syn = false; took = false; away = false; epoch = None; node = None; back = [] }
 
 abbrev pub row_step : Story → Rec → Story
 row_step t (rec.Took Front c epoch) = record t { took = true; away = false }
@@ -148,10 +154,18 @@ row_step t _ = t
 
 abbrev pub story_step : ℕ → Story → Seen → Story
 story_step c t (Row r) = row_step t r
-story_step c t (Came l) = record t { syn = t.syn || syn_on c l.from l.to l.bytes; ended = t.ended ++ listed (ended_on l.from l.to l.bytes) }
+story_step c t (Came l) = record t { syn = t.syn || syn_on c l.from l.to l.bytes; back = t.back ++ listed (told_of is_back l.from l.to l.bytes) }
 
 abbrev pub story : ℕ → List Seen → Story
 story c seen = fold (story_step c) untold_story seen
+
+-- the epoch in which anybody gave it up last, or 0
+abbrev pub gave_step : ℕ → Rec → ℕ
+gave_step e (rec.Gave place c epoch) = epoch.0
+gave_step e _ = e
+
+abbrev pub last_gave : List Seen → ℕ
+last_gave seen = fold (seen_step gave_step) 0 seen
 
 -- the highest of these epochs, or 0
 abbrev pub highest : List ℕ → ℕ
