@@ -123,7 +123,7 @@ forward-by k s at m n r done flags node is =
 put-over : (s t : NodeState) (c : ℕ) (ks fs : List Kept) (q : NodePart) → t.conns ≡ s.conns → t.stays ≡ s.stays → t.cache ≡ s.cache → t.disk ≡ s.disk
     → t.kept ≡ put_list s.kept c ks → t.fetches ≡ put_list s.fetches c fs → node_put t c q ≡ node_put s c q
 put-over s t c ks fs q conns stays cache disk kept fetches = λ i. record {
-  conns = put_in (conns i) c q.row q.beside;
+  conns = table_put (conns i) c q.row q.beside;
   stays = put_or (stays i) c q.stay;
   kept = (ap (λ (m : HeldMessages). put_list m c q.kept) kept ∙ list_twice s.kept c ks q.kept) i;
   fetches = (ap (λ (m : HeldMessages). put_list m c q.fetches) fetches ∙ list_twice s.fetches c fs q.fetches) i;

@@ -13,7 +13,7 @@ use Rattle.lard_handoff_back.specs.declared.row.BackConn.TheVariants as stage
 use Rattle.lard_handoff_back.specs.declared.row.BackRow.{BackRow}
 use Rattle.lard_handoff_back.specs.Back.{Backs, staying, back_with_stage}
 use Rattle.lard_handoff_back.specs.Row.{back_held}
-use Rattle.lard_handoff_back.specs.Table.{beside_in, put_in}
+use Rattle.lard_handoff_back.specs.Table.{beside_in, table_put}
 use Rattle.lard_handoff_back.proofs.Putting.{beside_put, row_put_in}
 use Rattle.lard_rules.specs.declared.node.NodeState.{NodeState}
 use Rattle.lard_rules.specs.declared.node.NodeTurn.{NodeTurn}
@@ -96,7 +96,7 @@ part-put s c q = λ i. record {
 -- the row of a connection that was in hand, and what stands beside it
 conns-back : (s : NodeState) (at : At) (b : ControlBlock) (st : BackConn) → staying at.epoch.0 (get s.conns.rows at.c) ≡ Some b
     → (let m = back_with_stage s.conns.rows at.c stage.Out (get s.conns.rows at.c) in record s.conns { rows = back_with_stage m at.c st (get m at.c) })
-    ≡ put_in s.conns at.c (Some (record { stage = st; epoch = record { 0 = at.epoch.0 } })) (beside_in s.conns at.c)
+    ≡ table_put s.conns at.c (Some (record { stage = st; epoch = record { 0 = at.epoch.0 } })) (beside_in s.conns at.c)
 conns-back s at b st h = (λ i. record s.conns { rows = row-back s.conns.rows at.c at.epoch.0 (get s.conns.rows at.c) b st h i }) ∙ row_put_in s.conns at.c (Some (record { stage = st; epoch = record { 0 = at.epoch.0 } }))
 
 pub left-is : (k : NodeSetting) (s : NodeState) (at : At) (b : ControlBlock) (w : Work) (e : Ending) → staying at.epoch.0 (get s.conns.rows at.c) ≡ Some b

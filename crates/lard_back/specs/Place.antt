@@ -19,7 +19,7 @@ use Rattle.lard_rules.specs.declared.node.NodeState.{NodeState}
 use Rattle.lard_rules.specs.declared.node.NodeTurn.{NodeTurn}
 use Rattle.lard_rules.specs.declared.stay.Stay.{Stay}
 use Rattle.lard_rules.specs.Node.{NodePart, here, kept_after, turn_by}
-use Rattle.lard_rules.specs.NodePlace.{NodeSetting, leaves, node_part, node_put, stores_told}
+use Rattle.lard_rules.specs.NodePlace.{NodeSetting, node_leaves, node_part, node_put, stores_told}
 use Rattle.lard_rules.specs.Stay.{NodeEnv, Work}
 use Rattle.lard_rules.specs.declared.places.Out.{Out}
 use Rattle.lard_rules.specs.declared.places.Ending.{Ending}
@@ -39,7 +39,7 @@ node_env_of k s at = record {
   epoch = at.epoch.0;
   cached = has_path s.cache.entries;
   queue = length s.disk;
-  leaving = leaves s;
+  leaving = node_leaves s;
 }
 
 abbrev pub out_at : At → Flags → NodePart → NodeTurn → Out

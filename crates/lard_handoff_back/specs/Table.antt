@@ -37,8 +37,8 @@ abbrev pub beside_in : Table → ℕ → Beside
 beside_in t c = record { refused = get t.refused c; returned = get t.returned c }
 
 -- the table with this row of a connection, and this beside it
-abbrev pub put_in : Table → ℕ → Option BackRow → Beside → Table
-put_in t c row b = record t { rows = put_or t.rows c row; refused = put_or t.refused c b.refused; returned = put_or t.returned c b.returned }
+abbrev pub table_put : Table → ℕ → Option BackRow → Beside → Table
+table_put t c row b = record t { rows = put_or t.rows c row; refused = put_or t.refused c b.refused; returned = put_or t.returned c b.returned }
 
 -- only a node that leaves refuses, or gives back
 pub record IsTableSound (t : Table) : Type 0 where

@@ -23,7 +23,7 @@ use Rattle.lard_rules.proofs.FrontCases.{IsAsGiven, IsInStage, KeptByFront, Kept
 
 -- a place of a node that has nothing to do with it
 abbrev no_node : ServeEnv → NodeEnv
-no_node serve = record { serve = serve; n = 0; epoch = 0; cached = λ path. false; queue = 0 }
+no_node serve = record { serve = serve; n = 0; epoch = 0; cached = λ path. false; queue = 0; leaving = false }
 
 -- what may be frozen is not closed
 pub freeze-open : (b : ControlBlock) → may_freeze b ≡ true → b.send.finished ≡ false

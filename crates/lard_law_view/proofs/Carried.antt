@@ -1,6 +1,6 @@
 -- A law of one connection is a law of each connection in every state that events lead to.
 use Rattle.std.proofs.Common.{◌≡◌, ℕ, List, [], ◌∷◌, ◌++◌, Some, None, Ok, refl, sym, ap, ◌∙◌, subst, inl, inr, ⊎_elim, Bool, false}
-use Rattle.lard_law_view.specs.Prelude.{AreNumbered, Carries, Config, Conn, Event, GoesBy, HasRule, IsConnNumber, IsConnSound, IsReached, IsViewed, IsViewedAlways, Machine, MayRestOn, Move, NodeState, Rules, Setting, StepsMove, blank_conn, conn, file_at, grown, leaving_of, machine_start, machine_step, no_stays, setting, setting_of, with_leaving}
+use Rattle.lard_law_view.specs.Prelude.{AreNumbered, Carries, Config, Conn, Event, GoesBy, HasRule, IsConnNumber, IsConnSound, IsReached, IsViewed, IsViewedAlways, Machine, MayRestOn, Move, NodeState, Rules, Setting, StepsMove, blank_conn, conn, file_at, grown, which_leave, machine_start, machine_step, no_stays, setting, setting_of, with_leaving}
 use Rattle.lard_law_view.proofs.After.{IsAfter, step-after}
 use Rattle.lard_law_view.proofs.Fine.{IsFine, fine}
 use Rattle.lard_law_view.proofs.Runs.{length-replicated, of-nodes, passes-keep, passes-more, start-blank}
@@ -60,12 +60,12 @@ module _ (config : Config) (files : List (List ℕ × List ℕ)) where
     pub config_is : m.config ≡ config
     pub files_are : m.files ≡ files
 
-  pub on-setting : (m : Machine) → IsOn m → with_leaving (setting config files) (leaving_of m) ≡ setting_of m
-  on-setting m on = λ i. record { files = file_at (sym on.files_are i); stream = (sym on.config_is i).stream; nodes = (sym on.config_is i).nodes; leaving = leaving_of m }
+  pub on-setting : (m : Machine) → IsOn m → with_leaving (setting config files) (which_leave m) ≡ setting_of m
+  on-setting m on = λ i. record { files = file_at (sym on.files_are i); stream = (sym on.config_is i).stream; nodes = (sym on.config_is i).nodes; leaving = which_leave m }
 
   -- what is so of each rule whichever nodes leave, is so of each rule of the machine
   pub on-rules : (P : Conn → Move → Type 0) → ((l : ℕ → Bool) → Rules (with_leaving (setting config files) l) P) → (m : Machine) → IsOn m → Rules (setting_of m) P
-  on-rules P R m on = subst (λ (s : Setting). Rules s P) (on-setting m on) (R (leaving_of m))
+  on-rules P R m on = subst (λ (s : Setting). Rules s P) (on-setting m on) (R (which_leave m))
 
   on-more : (m n : Machine) (e : Event) → IsOn m → HasRule e → machine_step m e ≡ Ok n → IsOn n
   on-more m n e on rule is = let after : IsAfter m e n = step-after m on.view e n rule is in record {

@@ -1,7 +1,7 @@
 -- Laws of a step: from the move of each connection in it to the steps of the whole journal. And laws of a record, and of
 -- the end of each step.
 use Rattle.std.proofs.Common.{◌≡◌, ℕ, List, [], ◌++◌, Ok, refl, sym, ap, ◌∙◌, subst, ⊎_elim, append-nil}
-use Rattle.lard_law_view.specs.Prelude.{AtEachEnd, CarriesRecords, CarriesSteps, Config, Conn, EachMay, Event, GoesBy, HasRule, HoldsBefore, IsConnNumber, IsReached, Machine, MayRestOn, Move, Rec, Seen, conn, grown, leaving_of, machine_step, net_of, own, seen_in, seen_on}
+use Rattle.lard_law_view.specs.Prelude.{AtEachEnd, CarriesRecords, CarriesSteps, Config, Conn, EachMay, Event, GoesBy, HasRule, HoldsBefore, IsConnNumber, IsReached, Machine, MayRestOn, Move, Rec, Seen, conn, grown, which_leave, machine_step, net_of, own, seen_in, seen_on}
 use Rattle.lard_law_view.proofs.After.{IsAfter, step-after}
 use Rattle.lard_law_view.proofs.Carried.{IsOn, carried-keep, goes-on, may-move}
 use Rattle.lard_history.proofs.Each.{each_append}
@@ -36,7 +36,7 @@ carried-steps config files Given must own_must local law given m r = (carried-ke
       let goes : (q : ℕ) → GoesBy Q (conn k q) (conn n q) = goes-on config files P (λ l. (law l).moves) k n e on rule is in
       subst (AreLawful must) (sym shape.is)
       (one-more must k.journal shape.step shape.one h
-      (local k.journal shape.step (λ q. seen-step Q (own_must q (own q k.journal)) k n shape.step q shape.is ((law (leaving_of k)).still q (own q k.journal))
+      (local k.journal shape.step (λ q. seen-step Q (own_must q (own q k.journal)) k n shape.step q shape.is ((law (which_leave k)).still q (own q k.journal))
       (λ v does. does.1 (may-move Given (conn k q) does.0 (on.view.sound q) (given k on.reached q))) (goes q))))
 
 -- what each connection's own records may say, the journal may say

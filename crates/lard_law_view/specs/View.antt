@@ -64,11 +64,11 @@ abbrev pub with_leaving : Setting → (ℕ → Bool) → Setting
 with_leaving k l = record k { leaving = l }
 
 -- whether a node of the machine leaves
-abbrev pub leaving_of : Machine → ℕ → Bool
-leaving_of m n = leaves_at (node_at m.nodes n)
+abbrev pub which_leave : Machine → ℕ → Bool
+which_leave m n = leaves_at (node_at m.nodes n)
 
 abbrev pub setting_of : Machine → Setting
-setting_of m = record { files = file_at m.files; stream = m.config.stream; nodes = m.config.nodes; leaving = leaving_of m }
+setting_of m = record { files = file_at m.files; stream = m.config.stream; nodes = m.config.nodes; leaving = which_leave m }
 
 -- What all places keep of a connection: its client's place, the front end, and each node.
 pub record Part : Type 0 where

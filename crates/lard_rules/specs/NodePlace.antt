@@ -9,7 +9,7 @@ use Rattle.lard_base.specs.declared.place.Place.TheVariants as place
 use Rattle.lard_cache.specs.Recency.{Recency, after_hit, after_put, has_path}
 use Rattle.lard_disk.specs.declared.disk.Job.{Job}
 use Rattle.lard_disk.specs.Jobs.{is_for, job_at, without_job}
-use Rattle.lard_handoff_back.specs.Table.{beside_in, put_in, table_begun}
+use Rattle.lard_handoff_back.specs.Table.{beside_in, table_put, table_begun}
 use Rattle.lard_journal.specs.declared.rec.Rec.{Rec}
 use Rattle.lard_journal.specs.declared.rec.Rec.TheVariants as rec
 use Rattle.lard_message.specs.declared.fault.MsgFault.{MsgFault}
@@ -42,20 +42,20 @@ abbrev pub node_part : NodeState → ℕ → NodePart
 node_part s c = record { row = table.get s.conns.rows c; stay = table.get s.stays c; kept = held s.kept c; fetches = held s.fetches c; beside = beside_in s.conns c }
 
 abbrev pub node_put : NodeState → ℕ → NodePart → NodeState
-node_put s c p = record s { conns = put_in s.conns c p.row p.beside; stays = put_or s.stays c p.stay; kept = put_list s.kept c p.kept; fetches = put_list s.fetches c p.fetches }
+node_put s c p = record s { conns = table_put s.conns c p.row p.beside; stays = put_or s.stays c p.stay; kept = put_list s.kept c p.kept; fetches = put_list s.fetches c p.fetches }
 
 -- no connection was offered, no path is cached, and no job is queued
 abbrev pub no_stays : ℕ → NodeState
 no_stays limit = record { conns = table_begun; stays = table.empty; kept = table.empty; fetches = table.empty; cache = record { entries = []; limit = limit }; disk = [] }
 
 -- a node takes nothing new, and gives back what it has
-abbrev pub leaves : NodeState → Bool
-leaves s = s.conns.leaving
+abbrev pub node_leaves : NodeState → Bool
+node_leaves s = s.conns.leaving
 
 -- a node that is not there does not
 abbrev pub leaves_at : Option NodeState → Bool
 leaves_at None = false
-leaves_at (Some s) = leaves s
+leaves_at (Some s) = node_leaves s
 
 abbrev pub node_env : NodeSetting → NodeState → ℕ → ℕ → NodeEnv
 node_env k s c epoch = record {
@@ -64,7 +64,7 @@ node_env k s c epoch = record {
   epoch = epoch;
   cached = has_path s.cache.entries;
   queue = length s.disk;
-  leaving = leaves s;
+  leaving = node_leaves s;
 }
 
 -- ---- what a turn comes to in a step
