@@ -309,7 +309,7 @@ module _ (env : FrontEnv) (own : env.serve.place ≡ place.Front) (conn : cluste
       drops = tt;
       begins = λ none plain. holds-fits begun_row (front_rest None) (spoken env.serve (begun_service env s) []) (omega arith) no-rest
           (spoken-front (begun_service env s) [] tt (omega arith) (record { notes = ((tt, number, omega arith), tt); keeps = ((tt, omega arith, omega arith), tt, fit-listening s env.iss told first); over = tt }))
-          (spoken-serves env.serve (begun_service env s) [] (record { counted = omega arith; asked = omega arith; most = omega arith; sent = omega arith }));
+          (spoken-serves env.serve (begun_service env s) [] (record { asked = omega arith; most = omega arith; sent = omega arith }));
       reads = λ row b at. let k = kept-at row (stage.Held b) at in (
         reads-read (heard_reading p b s) (fresh (on_segment b s).1 (front_rest p.rest).count (keeping-segment ((front_rest p.rest).count - 2 ^ 30) b s told k.1), tt),
         reads-stop env.serve (heard_service p b s) (segment-serves (front_rest p.rest).count b s k.2),
