@@ -1,11 +1,11 @@
--- Journals in which a connection moves as it may not, and in which an Offer carries what it should not.
+-- Journals in which a connection moves as it may not, and in which an Offer or a Give carries what it should not.
 use Rattle.std.specs.Prelude.{List, [], ◌∷◌, None, Some, codes}
 use Rattle.lard_base.specs.declared.event.Event.TheVariants as event
 use Rattle.lard_law_view.specs.Prelude.{Client, EachStep, Front, Node, Rec, request, steps}
 use Rattle.lard_law_connections.specs.Motion.{MustMove}
 use Rattle.lard_law_connections.specs.Offers.{CarryTheEndpoint}
 use Rattle.lard_journal.specs.declared.rec.Rec.TheVariants as rec
-use Rattle.lard_refusals.specs.Packets.{client_acknowledgement, offer, offer_without_bytes, syn}
+use Rattle.lard_refusals.specs.Packets.{client_acknowledgement, give_without_bytes, offer, offer_without_bytes, syn}
 use Rattle.lard_refusals.specs.Refusals.{Law, gave, took}
 
 -- ---- motion
@@ -55,7 +55,7 @@ segment_not_forwarded =
     rec.Event 1 (event.Timer Front 1) ∷ rec.AssignedFirst 1 1 (codes "/a") 1 (Some 1) None ∷ gave Front 1 1 ∷ rec.Sent 1 Front (Node 1) offer
     ∷ rec.Event 2 (event.Timer (Client 1) 1) ∷ rec.Sent 2 (Client 1) Front client_acknowledgement ∷ rec.Event 3 (event.Deliver 2) ∷ rec.Got 2 ∷ []
 
--- ---- Offers
+-- ---- Offers and Gives
 
 abbrev pub offers : Law
 offers config files J = CarryTheEndpoint files J
@@ -67,3 +67,7 @@ offer_of_nobody = rec.Sent 1 Front (Node 1) offer ∷ []
 -- A client wrote a request, which came and was not read, and the Offer carries none of its bytes.
 abbrev pub unread_bytes_left_behind : List Rec
 unread_bytes_left_behind = rec.Opened 1 1000 5000 65535 1460 ∷ rec.Wrote 1 (request (codes "/a")) ∷ rec.Sent 1 Front (Node 1) offer_without_bytes ∷ []
+
+-- So does the Give of a node.
+abbrev pub unread_bytes_not_given_back : List Rec
+unread_bytes_not_given_back = rec.Opened 1 1000 5000 65535 1460 ∷ rec.Wrote 1 (request (codes "/a")) ∷ rec.Sent 1 (Node 1) Front give_without_bytes ∷ []

@@ -1,4 +1,4 @@
-//! What the laws of how a connection moves and of what an Offer carries refuse.
+//! What the laws of how a connection moves and of what an Offer and a Give carry refuse.
 
 ghost use Rattle.lard_refusals.specs.Moves as the;
 ghost use Rattle.lard_refusals.specs.Refusals.{IsLawOfAll, Refuses};
@@ -17,9 +17,10 @@ pub fn motion_refuses()
     ensures segment_not_forwarded { Refuses the.motion the.segment_not_forwarded }
 {}
 
-/// An Offer carries the endpoint.
+/// An Offer carries the endpoint, and so does a Give.
 pub fn offers_refuses()
     ensures law { IsLawOfAll the.offers }
     ensures offer_of_nobody { Refuses the.offers the.offer_of_nobody }
     ensures unread_bytes_left_behind { Refuses the.offers the.unread_bytes_left_behind }
+    ensures unread_bytes_not_given_back { Refuses the.offers the.unread_bytes_not_given_back }
 {}
