@@ -2,7 +2,7 @@
 -- where it is an Offer or a Fetch, of which something comes, or a Tag that counts, with which a unit goes.
 use Rattle.std.proofs.Common.{◌≡◌, ◌≢◌, ◌<◌, ◌≤◌, ℕ, List, [], ◌∷◌, ◌++◌, Some, Ok, inl, inr, ⊎_elim, refl, sym, ap, ◌∙◌, subst, arith}
 use Rattle.std.specs.Prelude.{◌⊎◌}
-use Rattle.lard_law_view.specs.Prelude.{Conn, Event, Front, Has, IsConnNumber, IsNodeEnv, Job, Letter, Machine, Message, Move, Node, NodeEnv, NodePart, NodeSetting, NodeState, NodeTurn, Out, Packet, Place, Rec, SpellsMessage, Station, Was, conn, conn_of, decoded_message, file_at, job_at, letter_of, letters, machine_step, machine_told, node_at, node_deed, node_env, node_epoch_at, node_gave, node_gets, node_part, node_setting, node_step, node_tagged, node_timer, packet_at, part_of, setting_of, with_node}
+use Rattle.lard_law_view.specs.Prelude.{Conn, Event, Front, Has, IsConnNumber, IsNodeEnv, Job, Letter, Machine, Message, Move, Node, NodeEnv, NodePart, NodeSetting, NodeState, NodeTurn, Out, Packet, Place, Rec, SpellsMessage, Station, Was, conn, conn_of, decoded_message, file_at, job_at, leaves_at, letter_of, letters, machine_step, machine_told, node_at, node_deed, node_env, node_epoch_at, node_gave, node_gets, node_part, node_setting, node_step, node_tagged, node_timer, packet_at, part_of, setting_of, with_node}
 use Rattle.lard_base.specs.declared.event.Event.TheVariants as event
 use Rattle.lard_bound.specs.Chains.{aside_chain, chain_between, front_chain, of_message}
 use Rattle.lard_bound.specs.Progress.{chain_on, spot_with}
@@ -147,7 +147,7 @@ module _ (Given : Conn → Type 0) (Came : Conn → Move → Type 0) (all : ℕ 
         let kept = node-kept m i s q there in
         let same_put : given.0 ≡ (node_deed ks s q (node.Does g)).0 = put ∙ ap (λ (j : ℕ). (node_deed ks s j (node.Does g)).0) same in
         let part = deed-part m q n (event.Deliver k) (rec.Got k ∷ []) i s given g there got same_put in
-        tags q i e tag nodes env g number (record { place = refl; number = refl; files = refl; stream = refl; node = refl; epoch_is = refl }) (ap (λ (z : NodePart). node_tagged env z tag nodes) kept ∙ here) part
+        tags q i e tag nodes env g number (record { place = refl; number = refl; files = refl; stream = refl; node = refl; epoch_is = refl; leaves = ap leaves_at (sym there) }) (ap (λ (z : NodePart). node_tagged env z tag nodes) kept ∙ here) part
 
     by-why : (job : Job) (js : List Job) → Why ks s p.from (decoded_message p.bytes) given.0 js → Has job js → Comes
     by-why job js (Nothing none) has up = absurd (subst (Has job) none has)

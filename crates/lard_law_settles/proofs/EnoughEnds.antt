@@ -1,8 +1,8 @@
 -- A settle with as many rounds as its journal's bound leaves nothing, where the schedule put no packet on the way in a client's name and each
 -- client wrote little.
-use Rattle.std.proofs.Common.{◌≡◌, ◌≤◌, ℕ, List, Ok, ap, ◌∙◌}
+use Rattle.std.proofs.Common.{◌≡◌, ◌≤◌, ℕ, List, Ok, ap, ◌∙◌, Bool, subst}
 use Rattle.std.specs.Prelude.{All}
-use Rattle.lard_law_view.specs.Prelude.{Config, Event, Machine, config_check, conn, file_at, machine_start, setting}
+use Rattle.lard_law_view.specs.Prelude.{Config, Event, Machine, config_check, conn, file_at, machine_start, setting, which_leave, with_leaving}
 use Rattle.lard_base.proofs.Usable.{usable}
 use Rattle.lard_bound.specs.Bound.{IsOrdinary, settling_bound}
 use Rattle.lard_laws.specs.Records.{IsRunFile, IsScheduled}
@@ -24,9 +24,10 @@ use Rattle.lard_settling.specs.Settling.{settled}
 
 module _ (config : Config) (files : List (List ℕ × List ℕ)) (checked : config_check config ≡ Ok tt) (are : All IsRunFile files) where
   -- all that is given of a connection within
-  known : (m p : Machine) → IsWithin config files m.journal p → (q : ℕ) → Known (setting config files) (wholes (file_at files) m.journal) (conn p q)
+  known : (m p : Machine) → IsWithin config files m p → (q : ℕ) → Known (with_leaving (setting config files) (which_leave m)) (wholes (file_at files) m.journal) (conn p q)
   known m p w q =
-      let given = rules-given config files checked are m p w q in (
+      let given = rules-given config files checked are m p w q in
+      subst (λ (l : ℕ → Bool). Known (with_leaving (setting config files) l) (wholes (file_at files) m.journal) (conn p q)) w.leaving_same (
         given,
         timers-known config files (usable config checked).stream p w.reached (holds config files checked are m p w) (files-named files are) q (free-tale config files checked are m p w q) (wholes (file_at files) m.journal) given,
       )

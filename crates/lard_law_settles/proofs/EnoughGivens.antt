@@ -1,7 +1,7 @@
 -- Of each connection of a machine within a settle: all that its rules want given is so.
 use Rattle.std.proofs.Common.{◌≡◌, ◌≤◌, ℕ, false, List, length, Some, Ok, sym, ap, ◌∙◌, arith}
 use Rattle.std.specs.Prelude.{All}
-use Rattle.lard_law_view.specs.Prelude.{Config, Conn, Machine, Setting, Station, Tale, config_check, conn, file_at, setting, tale_at, wrote}
+use Rattle.lard_law_view.specs.Prelude.{Config, Conn, Machine, Setting, Station, Tale, config_check, conn, file_at, setting, tale_at, which_leave, with_leaving, wrote}
 use Rattle.lard_base.proofs.Usable.{usable}
 use Rattle.lard_bound.specs.Units.{Whole, whole_of}
 use Rattle.lard_law_settles.proofs.KnownEverything as every
@@ -18,12 +18,12 @@ use Rattle.lard_law_settles.proofs.EnoughRested.{all-events, free-of, free-tale,
 use Rattle.lard_law_settles.proofs.EnoughSums.{wholes}
 use Rattle.lard_law_settles.proofs.EnoughWithin.{IsWithin}
 
-module _ (config : Config) (files : List (List ℕ × List ℕ)) (checked : config_check config ≡ Ok tt) (are : All IsRunFile files) (m p : Machine) (w : IsWithin config files m.journal p) (q : ℕ) where
+module _ (config : Config) (files : List (List ℕ × List ℕ)) (checked : config_check config ≡ Ok tt) (are : All IsRunFile files) (m p : Machine) (w : IsWithin config files m p) (q : ℕ) where
   abbrev pub x : Conn
   x = conn p q
 
   abbrev k : Setting
-  k = setting config files
+  k = with_leaving (setting config files) (which_leave p)
 
   abbrev all : ℕ → Whole
   all = wholes (file_at files) m.journal

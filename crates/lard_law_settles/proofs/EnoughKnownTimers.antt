@@ -1,6 +1,6 @@
 -- What the timers of a settle rest on is so of each connection of each machine within.
 use Rattle.std.proofs.Common.{◌≡◌, ◌≤◌, ◌==◌, ℕ, true, false, List, Option, Some, refl, subst}
-use Rattle.lard_law_view.specs.Prelude.{ClientBlock, Config, Conn, ControlBlock, IsConnNumber, IsConnSound, IsReached, MAX_STREAM_BYTES, Machine, Reason, Setting, Station, conn, file_at, setting, tale_at}
+use Rattle.lard_law_view.specs.Prelude.{ClientBlock, Config, Conn, ControlBlock, IsConnNumber, IsConnSound, IsReached, MAX_STREAM_BYTES, Machine, Reason, Setting, Station, conn, file_at, setting, tale_at, which_leave, with_leaving}
 use Rattle.lard_base.specs.declared.place.Reason.TheVariants as reason
 use Rattle.lard_bound.specs.Seats.{Over, seat_of}
 use Rattle.lard_bound.specs.Units.{Whole}
@@ -22,12 +22,12 @@ use Rattle.lard_law_progress.proofs.Seating.{seat-at}
 use Rattle.lard_law_settles.proofs.EnoughRenewals.{decided-are, renews-are}
 
 module _ (config : Config) (files : List (List ℕ × List ℕ)) (small : config.stream ≤ MAX_STREAM_BYTES) (m : Machine) (reached : IsReached config files m) (holds : Holds m) (named : AreNamed (file_at files)) (q : ℕ)
-    (free : (tale_at (conn m q)).touched ≡ false) (all : ℕ → Whole) (given : AllGiven (setting config files) all (conn m q)) where
+    (free : (tale_at (conn m q)).touched ≡ false) (all : ℕ → Whole) (given : AllGiven (with_leaving (setting config files) (which_leave m)) all (conn m q)) where
   abbrev x : Conn
   x = conn m q
 
   abbrev k : Setting
-  k = setting config files
+  k = with_leaving (setting config files) (which_leave m)
 
   sound : IsConnSound x
   sound = (reached-viewed config files m reached).sound q

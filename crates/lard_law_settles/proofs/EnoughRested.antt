@@ -1,7 +1,7 @@
 -- Of the machines within a settle, put together: what its rounds owe, and so its end, where what is given of each connection is so.
-use Rattle.std.proofs.Common.{◌≡◌, ◌≤◌, ℕ, false, List, Option, Some, None, Ok, sym, ap, ◌∙◌, subst}
+use Rattle.std.proofs.Common.{◌≡◌, ◌≤◌, ℕ, false, List, Option, Some, None, Ok, sym, ap, ◌∙◌, subst, Bool}
 use Rattle.std.specs.Prelude.{All}
-use Rattle.lard_law_view.specs.Prelude.{Config, Conn, Event, Letter, Machine, Move, Rules, Seen, Setting, SpellsMessage, Station, config_check, conn, file_at, grown, is_holding, machine_step, part_of, setting, setting_of, tale_at}
+use Rattle.lard_law_view.specs.Prelude.{Config, Conn, Event, Letter, Machine, Move, Rules, Seen, Setting, SpellsMessage, Station, config_check, conn, file_at, grown, is_holding, machine_step, part_of, setting, setting_of, tale_at, which_leave, with_leaving}
 use Rattle.lard_base.proofs.Usable.{usable}
 use Rattle.lard_bound.specs.Bound.{IsOrdinary, settling_bound}
 use Rattle.lard_bound.specs.Progress.{IfCame, IsWarm, came_in}
@@ -59,14 +59,14 @@ came-also P Q ss h f = go (came_in ss) h where
 
 module _ (config : Config) (files : List (List ℕ × List ℕ)) (checked : config_check config ≡ Ok tt) (are : All IsRunFile files) (m : Machine) where
   abbrev pub Good : Machine → Type 0
-  Good p = IsWithin config files m.journal p × OfAll Second p
+  Good p = IsWithin config files m p × OfAll Second p
 
   pub events : AreGiven config files
   events p n e reached inner is = settle-given config files checked p n e reached inner is
 
   -- ---- of a machine within
 
-  module _ (p : Machine) (w : IsWithin config files m.journal p) where
+  module _ (p : Machine) (w : IsWithin config files m p) where
     pub free-tale : (q : ℕ) → (tale_at (conn p q)).touched ≡ false
     free-tale q = known.free-tale config files (usable config checked).stream p w.reached q (w.untouched q)
 
@@ -111,26 +111,30 @@ module _ (config : Config) (files : List (List ℕ × List ℕ)) (checked : conf
   -- ---- of all of them, where what is given of each connection is so
 
   abbrev pub k : Setting
-  k = setting config files
+  k = with_leaving (setting config files) (which_leave m)
 
   abbrev Given : Conn → Type 0
   Given x = Known k (wholes (file_at files) m.journal) x
 
-  module _ (given : (p : Machine) → IsWithin config files m.journal p → (q : ℕ) → Known (setting config files) (wholes (file_at files) m.journal) (conn p q)) where
-    warming : Warming config files (wholes (file_at files) m.journal) Good (IsWithin config files m.journal) First Second
+  module _ (given : (p : Machine) → IsWithin config files m p → (q : ℕ) → Known k (wholes (file_at files) m.journal) (conn p q)) where
+    warming : Warming config files (wholes (file_at files) m.journal) Good (IsWithin config files m) First Second
     warming = record {
       reached = λ p v. v.reached;
-      kept = λ p q e v of is. within-kept config files events m.journal p q e v of is;
+      kept = λ p q e v of is. within-kept config files events m p q e v of is;
       moves = λ p q e v of is. step-warms p q e (reached-viewed config files p v.reached) (calm p v) of is;
       follows = second-first;
     }
 
-    node-given : (p : Machine) → IsWithin config files m.journal p → (q : ℕ) → NodeGiven (setting_of p) (wholes (file_at files) m.journal q) (conn p q)
-    unfolding conn
-    node-given p w q = subst (λ (z : Setting). NodeGiven z (wholes (file_at files) m.journal q) (conn p q)) (setting-is config files p w.reached) (given p w q).0.node
+    -- all machines within have one setting
+    setting-within : (p : Machine) → IsWithin config files m p → k ≡ setting_of p
+    setting-within p w = ap (λ (l : ℕ → Bool). with_leaving (setting config files) l) (sym w.leaving_same) ∙ setting-is config files p w.reached
 
-    rules : (p : Machine) → IsWithin config files m.journal p → Rules (setting_of p) (Owed Given Comes (wholes (file_at files) m.journal) (setting_of p))
-    rules p w = subst (λ (z : Setting). Rules z (Owed Given Comes (wholes (file_at files) m.journal) z)) (setting-is config files p w.reached) (rules-owe k (wholes (file_at files) m.journal))
+    node-given : (p : Machine) → IsWithin config files m p → (q : ℕ) → NodeGiven (setting_of p) (wholes (file_at files) m.journal q) (conn p q)
+    unfolding conn
+    node-given p w q = subst (λ (z : Setting). NodeGiven z (wholes (file_at files) m.journal q) (conn p q)) (setting-within p w) (given p w q).0.node
+
+    rules : (p : Machine) → IsWithin config files m p → Rules (setting_of p) (Owed Given Comes (wholes (file_at files) m.journal) (setting_of p))
+    rules p w = subst (λ (z : Setting). Rules z (Owed Given Comes (wholes (file_at files) m.journal) z)) (setting-within p w) (rules-owe k (wholes (file_at files) m.journal))
 
     comes : (p n : Machine) (e : Event) → Good p → IsMade p e → machine_step p e ≡ Ok n → (q : ℕ) (v : Move) → IsShown p e (conn p q) v → conn n q ≡ grown (conn p q) v → Comes (conn p q) v
     comes p n e w made is q v s grows =
@@ -144,7 +148,7 @@ module _ (config : Config) (files : List (List ℕ × List ℕ)) (checked : conf
         }
 
     goes : (p n : Machine) (e : Event) → Good p → IsMade p e → machine_step p e ≡ Ok n → Good n
-    goes p n e w made is = second-stays-so config files (wholes (file_at files) m.journal) Good (IsWithin config files m.journal) First Second warming p n e w made.0 made.1 is
+    goes p n e w made is = second-stays-so config files (wholes (file_at files) m.journal) Good (IsWithin config files m) First Second warming p n e w made.0 made.1 is
 
     within : Within Given Comes (wholes (file_at files) m.journal) Good
     within = record {

@@ -5,7 +5,7 @@ use Rattle.std.proofs.lemmas.Bool.{both_ways}
 use Rattle.std.proofs.lemmas.List.Sums.{fold-append}
 use Rattle.std.specs.List.{fold}
 use Rattle.lard_agenda.specs.Agenda.{agenda_of, holders}
-use Rattle.lard_law_view.specs.Prelude.{Config, Event, Has, IsReached, Machine, Passes, Rec, Station, conn, file_at, is_touched, machine_start, machine_step, passed, touched_step, wrote, wrote_step}
+use Rattle.lard_law_view.specs.Prelude.{Config, Event, Has, IsReached, Machine, Passes, Rec, Station, conn, file_at, is_touched, machine_start, machine_step, passed, touched_step, which_leave, wrote, wrote_step}
 use Rattle.lard_base.specs.declared.event.Event.TheVariants as event
 use Rattle.lard_bound.specs.Bound.{IsOrdinary, opener_step, openers, settling_bound}
 use Rattle.lard_bound.specs.Seats.{seat_of}
@@ -29,6 +29,7 @@ use Rattle.lard_law_settles.proofs.EnoughWarming.{OfAll, Warming, first-round, s
 use Rattle.lard_law_settles.proofs.EnoughWording.{First, IsCalmConn, Second, second-first}
 use Rattle.lard_law_settles.proofs.SettlesEvents.{begun-is}
 use Rattle.lard_law_settles.proofs.SettlesFiring.{IsInner}
+use Rattle.lard_law_settles.proofs.SettlesLeaving.{leaving-stays}
 use Rattle.lard_settling.specs.declared.settled.Settled.{Settled}
 use Rattle.lard_settling.specs.Left.{is_holder}
 use Rattle.lard_settling.specs.Settling.{settled, takes}
@@ -52,12 +53,13 @@ pub touched-steps : (c : ℕ) → TakesSteps (touched_step c)
 touched-steps c = record { events = λ a i j e. refl; inner = λ a i e. refl; settles = λ a i rounds. refl; settled = λ a rounds. refl; unsettled = λ a rounds left. refl }
 
 module _ (config : Config) (files : List (List ℕ × List ℕ)) where
-  -- of the settle of journal J
-  pub record IsWithin (J : List Rec) (m : Machine) : Type 0 where
+  -- of the settle that begins in machine o
+  pub record IsWithin (o m : Machine) : Type 0 where
     pub reached : IsReached config files m
     pub given : Each IsScheduled reached.0
-    pub wrote_same : (c : ℕ) → wrote m.journal c ≡ wrote J c
-    pub openers_same : openers m.journal ≡ openers J
+    pub wrote_same : (c : ℕ) → wrote m.journal c ≡ wrote o.journal c
+    pub openers_same : openers m.journal ≡ openers o.journal
+    pub leaving_same : which_leave m ≡ which_leave o
     pub untouched : (c : ℕ) → is_touched m.journal c ≡ false
     pub few : (c : ℕ) → length (wrote m.journal c) < 16383
     pub free : (c : ℕ) → is_holder m c ≡ false
@@ -73,8 +75,8 @@ module _ (config : Config) (files : List (List ℕ × List ℕ)) where
   few-same c xs ys same few = subst (λ (zs : List ℕ). length zs < 16383) (sym same) few
 
   -- each step of a round stays there
-  pub within-kept : AreGiven → (J : List Rec) (m n : Machine) (e : Event) → IsWithin J m → IsRounds e → machine_step m e ≡ Ok n → IsWithin J n
-  within-kept events J m n e w of is =
+  pub within-kept : AreGiven → (o m n : Machine) (e : Event) → IsWithin o m → IsRounds e → machine_step m e ≡ Ok n → IsWithin o n
+  within-kept events o m n e w of is =
       let view = reached-viewed config files m w.reached in
       let inner : IsInner e = rounds-inner e of in
       let wrote_is : (c : ℕ) → wrote n.journal c ≡ wrote m.journal c = λ c. inner-over (wrote_step c) (wrote-over c) [] m n e view inner is in
@@ -84,6 +86,7 @@ module _ (config : Config) (files : List (List ℕ × List ℕ)) where
         few = λ c. few-same c (wrote n.journal c) (wrote m.journal c) (wrote_is c) (w.few c);
         wrote_same = λ c. wrote_is c ∙ w.wrote_same c;
         openers_same = inner-over opener_step openers-over [] m n e view inner is ∙ w.openers_same;
+        leaving_same = leaving-stays m n e is ∙ w.leaving_same;
         untouched = λ c. inner-over (touched_step c) (touched-over c) false m n e view inner is ∙ w.untouched c;
         free = λ c. held (is_holder n c) refl (w.free c) (holder-before m n e view (rounds-rule e of) is c);
       } where
@@ -109,6 +112,17 @@ module _ (config : Config) (files : List (List ℕ × List ℕ)) where
         ∙ ap (λ (J : List Rec). fold step a J) same
         ∙ fold-append step a m.journal (rec.Event (m.events + 1) (event.Settle rounds) ∷ [])
         ∙ steps.settles (fold step a m.journal) (m.events + 1) rounds
+
+  -- the same nodes leave behind the takes
+  takes-leaving : (cs : List ℕ) (p q : Machine) → Passes p (map event.Take cs) q → which_leave q ≡ which_leave p
+  takes-leaving [] p q same = ap (λ (k : Machine). which_leave k) same
+  takes-leaving (c ∷ cs) p q on = takes-leaving cs on.0 q on.3 ∙ leaving-stays p on.0 (event.Take c) on.2
+
+  begun-leaving : (m n t : Machine) (rounds : ℕ) (w : Is config files n) → settle_begun m rounds ≡ Ok n → (b : Beside config files n w (takes n) t) → which_leave b.is.plain ≡ which_leave m
+  begun-leaving m n t rounds w begun b =
+      takes-leaving (filter (is_holder n) (holders (agenda_of n.journal))) w.plain b.is.plain b.passes
+      ∙ sym (ap (λ (k : Machine). which_leave k) w.same)
+      ∙ sym (ap (λ (k : Machine). which_leave k) (begun-is m n rounds begun))
 
   -- the settle's event changes nothing of the machine without settles
   pub begun-plain : (m n : Machine) (rounds : ℕ) (w : Is config files m) (v : Is config files n) → settle_begun m rounds ≡ Ok n → w.plain ≡ v.plain
@@ -155,7 +169,7 @@ module _ (config : Config) (files : List (List ℕ × List ℕ)) where
 
   -- where the run up to the settle was ordinary
   pub begun-within : AreGiven → (m n t : Machine) (rounds : ℕ) (w : Is config files m) (v : Is config files n) → Each IsScheduled w.reached.0 → IsOrdinary m.journal → settle_begun m rounds ≡ Ok n → (b : Beside config files n v (takes n) t)
-      → IsWithin m.journal b.is.plain
+      → IsWithin m b.is.plain
   begun-within events m n t rounds w v given ordinary begun b =
       let cs : List ℕ = filter (is_holder n) (holders (agenda_of n.journal)) in
       let same : w.plain ≡ v.plain = begun-plain m n rounds w v begun in
@@ -166,6 +180,7 @@ module _ (config : Config) (files : List (List ℕ × List ℕ)) where
         given = Each-append IsScheduled w.reached.0 (map event.Take cs) given (takes-given events cs v.plain b.is.plain v.reached b.passes);
         wrote_same = wrote_is;
         openers_same = begun-over opener_step openers-over opener-steps [] m n t rounds v begun b;
+        leaving_same = begun-leaving m n t rounds v begun b;
         untouched = λ c. begun-over (touched_step c) (touched-over c) (touched-steps c) false m n t rounds v begun b ∙ (ordinary c).0;
         few = λ c. few-same c (wrote b.is.plain.journal c) (wrote m.journal c) (wrote_is c) (ordinary c).1;
         free = none-holds config files n t v b;
@@ -179,32 +194,32 @@ module _ (config : Config) (files : List (List ℕ × List ℕ)) where
 
     -- what is known of all that is on its way behind two rounds
     abbrev pub Good : Machine → Type 0
-    Good p = IsWithin m.journal p × OfAll Second p
+    Good p = IsWithin m p × OfAll Second p
 
     -- What is left to be shown: of each machine within the settle, what is known of its connections, and how much is left to do at most; and
     -- what rounds ask of its steps.
     pub record SettlesWithin : Type 0 where
-      pub calm : (p : Machine) → IsWithin m.journal p → (q : ℕ) → IsCalmConn (conn p q)
-      pub opened : (p : Machine) → IsWithin m.journal p → (c : ℕ) (s : Station) → (conn p c).part.station ≡ Some s → Has c (openers p.journal)
-      pub modest : (p : Machine) → IsWithin m.journal p → (c : ℕ) (s : Station) → (conn p c).part.station ≡ Some s
+      pub calm : (p : Machine) → IsWithin m p → (q : ℕ) → IsCalmConn (conn p q)
+      pub opened : (p : Machine) → IsWithin m p → (c : ℕ) (s : Station) → (conn p c).part.station ≡ Some s → Has c (openers p.journal)
+      pub modest : (p : Machine) → IsWithin m p → (c : ℕ) (s : Station) → (conn p c).part.station ≡ Some s
           → IsModest (wholes (file_at files) m.journal c) (tellers (conn p c).part.nodes p.config.nodes) (seat_of (conn p c).part)
       pub owes : Owes (game (wholes (file_at files) m.journal) Good) 5 3
 
     module _ (events : AreGiven) (h : SettlesWithin) (given : Each IsScheduled w.reached.0) (ordinary : IsOrdinary m.journal) where
-      warming : Warming config files (wholes (file_at files) m.journal) Good (IsWithin m.journal) First Second
+      warming : Warming config files (wholes (file_at files) m.journal) Good (IsWithin m) First Second
       warming = record {
         reached = λ p v. v.reached;
-        kept = λ p q e v of is. within-kept events m.journal p q e v of is;
+        kept = λ p q e v of is. within-kept events m p q e v of is;
         moves = λ p q e v of is. step-warms p q e (reached-viewed config files p v.reached) (h.calm p v) of is;
         follows = second-first;
       }
 
-      settles-by : SettlesBy config files m w rounds (IsWithin m.journal) (λ p. IsWithin m.journal p × OfAll First p) Good
+      settles-by : SettlesBy config files m w rounds (IsWithin m) (λ p. IsWithin m p × OfAll First p) Good
       settles-by = record {
         owes = h.owes;
         begins = λ n t v begun b. begun-within events m n t rounds w v given ordinary begun b;
-        first = λ p q v r. first-round config files (wholes (file_at files) m.journal) Good (IsWithin m.journal) First Second warming p q v r;
-        second = λ p q v r. second-round config files (wholes (file_at files) m.journal) Good (IsWithin m.journal) First Second warming p q v r;
+        first = λ p q v r. first-round config files (wholes (file_at files) m.journal) Good (IsWithin m) First Second warming p q v r;
+        second = λ p q v r. second-round config files (wholes (file_at files) m.journal) Good (IsWithin m) First Second warming p q v r;
         modest = λ p v. record {
           opened = λ c s at. subst (Has c) v.0.openers_same (h.opened p v.0 c s at);
           modest = λ c s at. h.modest p v.0 c s at;
@@ -213,4 +228,4 @@ module _ (config : Config) (files : List (List ℕ × List ℕ)) where
 
       -- so a settle with enough rounds ends with nothing left
       pub within-quiet : settling_bound (file_at files) m.journal ≤ rounds → (n : Machine) (s : Settled) → settled m rounds ≡ Ok (n, s) → EndsQuiet n s
-      within-quiet paid n s is = settled-quiet config files m w rounds (IsWithin m.journal) (λ p. IsWithin m.journal p × OfAll First p) Good settles-by paid n s is
+      within-quiet paid n s is = settled-quiet config files m w rounds (IsWithin m) (λ p. IsWithin m p × OfAll First p) Good settles-by paid n s is

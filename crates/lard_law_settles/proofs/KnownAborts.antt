@@ -1,7 +1,7 @@
 -- A client that aborted is not open: of each connection that the schedule did not touch, in every state that events lead to.
 use Rattle.std.proofs.Common.{◌≡◌, ◌++◌, ◌||◌, ℕ, Bool, true, false, List, [], ◌∷◌, take, drop, nat_lt, Option, Some, None, Result, Ok, Err, inl, inr, refl, sym, ap, ◌∙◌, subst}
 use Rattle.std.proofs.lemmas.Bool.{both_ways, cond_both}
-use Rattle.lard_law_view.specs.Prelude.{Came, Client, ClientBlock, ClientRules, Config, Conn, Heard, IsMachine, IsUntouchedLaw, MayRestOn, Move, OfEach, Phase, Place, Rec, Row, Said, Seen, SegFault, Setting, Station, ToClient, Turn, Untouched, UntouchedRules, aborted, accepted_note, client_after_timer, client_arrived, client_begins, client_does, client_gets, client_holds, client_shuts, client_taken, client_takes, client_timed, client_timer, client_writes, client_written, decoded, eof_note, event_seen, grown, held_on, is_client_open, is_established, is_open_in, is_writing, nothing_said, packet_seen, queued_too, request, rows_of, send_closed, setting, shut_down, silent, speaking, stands, station_ready_of, tale_at}
+use Rattle.lard_law_view.specs.Prelude.{Came, Client, ClientBlock, ClientRules, Config, Conn, Heard, IsMachine, IsUntouchedLaw, MayRestOn, Move, OfEach, Phase, Place, Rec, Row, Said, Seen, SegFault, Setting, Station, ToClient, Turn, Untouched, UntouchedRules, aborted, accepted_note, client_after_timer, client_arrived, client_begins, client_does, client_gets, client_holds, client_shuts, client_taken, client_takes, client_timed, client_timer, client_writes, client_written, decoded, eof_note, event_seen, grown, held_on, is_client_open, is_established, is_open_in, is_writing, nothing_said, packet_seen, queued_too, request, rows_of, send_closed, setting, shut_down, silent, speaking, stands, station_ready_of, tale_at, with_leaving}
 use Rattle.lard_base.specs.declared.event.Event.TheVariants as event
 use Rattle.lard_client.specs.declared.phase.Phase.TheVariants.{Open, Aborted}
 use Rattle.lard_laws.specs.Acks.{story_at}
@@ -186,4 +186,4 @@ module _ (k : Setting) where
 pub each-aborted : (config : Config) (files : List (List ℕ × List ℕ)) → OfEach config files (Untouched AbortedIsOver)
 each-aborted config files =
     let k : Setting = setting config files in
-    carried config files (Given k) (Untouched AbortedIsOver) (untouched-law k (Given k) AbortedIsOver (law k)) (λ m r q. tt)
+    carried config files (Given k) (Untouched AbortedIsOver) (λ l. untouched-law (with_leaving k l) (Given k) AbortedIsOver (law (with_leaving k l))) (λ m r q. tt)

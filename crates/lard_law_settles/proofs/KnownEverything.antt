@@ -1,7 +1,7 @@
 -- All that the rules want given holds of each connection of a machine within a settle, where the schedule touched none.
 use Rattle.std.proofs.Common.{◌≡◌, ℕ, List, Some, Ok, refl, sym, ap, ◌∙◌, subst, false}
 use Rattle.std.specs.Prelude.{All}
-use Rattle.lard_law_view.specs.Prelude.{Config, Conn, ControlBlock, IsReached, Machine, Setting, Station, Tale, config_check, conn, file_at, is_touched, setting, setting_of, tale_at, wrote}
+use Rattle.lard_law_view.specs.Prelude.{Config, Conn, ControlBlock, IsReached, Machine, Setting, Station, Tale, config_check, conn, file_at, is_touched, setting, setting_of, tale_at, which_leave, with_leaving, wrote}
 use Rattle.lard_base.proofs.Usable.{usable}
 use Rattle.lard_bound.specs.Seats.{Held, Waiting, seat_of}
 use Rattle.lard_bound.specs.Units.{Whole, whole_of}
@@ -33,10 +33,11 @@ pub is-set : (config : Config) (files : List (List ℕ × List ℕ)) (m : Machin
 is-set config files m reached = carried-keep config files (IsSet config files) (record { config_is = refl; files_are = refl })
     (λ k n e on h rule is. let after = step-after k on.view e n rule is in record { config_is = after.config ∙ h.config_is; files_are = after.files ∙ h.files_are }) m reached
 
-pub setting-is : (config : Config) (files : List (List ℕ × List ℕ)) (m : Machine) → IsReached config files m → setting config files ≡ setting_of m
+-- with its own nodes that leave, they are its setting
+pub setting-is : (config : Config) (files : List (List ℕ × List ℕ)) (m : Machine) → IsReached config files m → with_leaving (setting config files) (which_leave m) ≡ setting_of m
 setting-is config files m reached =
     let s = is-set config files m reached in
-    λ i. record { files = file_at (sym s.files_are i); stream = (sym s.config_is i).stream; nodes = (sym s.config_is i).nodes }
+    λ i. record { files = file_at (sym s.files_are i); stream = (sym s.config_is i).stream; nodes = (sym s.config_is i).nodes; leaving = which_leave m }
 
 -- ---- a connection
 
@@ -46,7 +47,7 @@ module _ (config : Config) (files : List (List ℕ × List ℕ)) (checked : conf
   x = conn m q
 
   abbrev k : Setting
-  k = setting config files
+  k = with_leaving (setting config files) (which_leave m)
 
   untouched : (tale_at x).touched ≡ false
   untouched = free-tale config files (usable config checked).stream m reached q free

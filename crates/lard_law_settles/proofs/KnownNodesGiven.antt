@@ -3,7 +3,7 @@
 use Rattle.std.proofs.Common.{◌≡◌, ◌≤◌, ◌==◌, ◌&&◌, nat_eq, nat_lt, ℕ, Bool, true, false, cond, List, [], ◌∷◌, length, Option, Some, None, Ok, refl, sym, ap, ◌∙◌, subst, arith}
 use Rattle.std.specs.Prelude.{All}
 use Rattle.std.proofs.lemmas.Bool.{both_ways, cond_both, eq-eqb, le-ltb, ne_eqb, and_from, or_from}
-use Rattle.lard_law_view.specs.Prelude.{AreBytes, BackConn, BackRow, Config, Conn, ControlBlock, Event, FilesAt, Front, FrontConn, FrontRow, Has, IsReached, Letter, MAX_STREAM_BYTES, Machine, Node, NodePart, Packet, Passes, Said, Setting, SpellsMessage, Station, Stay, ToCluster, Verdict, Was, config_check, conn, conn_of, decoded, file_at, front_rest, is_no_node, is_row_at, is_with, letter_of, letters, letters_in, machine_start, one_of, setting, tale_at, verdicts}
+use Rattle.lard_law_view.specs.Prelude.{AreBytes, BackConn, BackRow, Config, Conn, ControlBlock, Event, FilesAt, Front, FrontConn, FrontRow, Has, IsReached, Letter, MAX_STREAM_BYTES, Machine, Node, NodePart, Packet, Passes, Said, Setting, SpellsMessage, Station, Stay, ToCluster, Verdict, Was, config_check, conn, conn_of, decoded, file_at, front_rest, is_no_node, is_row_at, is_with, letter_of, letters, letters_in, machine_start, one_of, setting, tale_at, verdicts, which_leave, with_leaving}
 use Rattle.lard_answers.proofs.Growing.{verdicts-nothing}
 use Rattle.lard_bound.specs.Seats.{Gone, Held, Here, Offered, Over, SeatNow, Unborn, Waiting, seat_away, seat_decided, seat_in, seat_of, seat_there, staying_of}
 use Rattle.lard_laws.specs.BackingRequests.{IsFor}
@@ -133,7 +133,7 @@ module _ (config : Config) (files : List (List ℕ × List ℕ)) (small : config
   x = conn m q
 
   abbrev k : Setting
-  k = setting config files
+  k = with_leaving (setting config files) (which_leave m)
 
   letter-bytes : (l : Letter) → Has l x.letters → AreBytes l.bytes
   unfolding conn letters

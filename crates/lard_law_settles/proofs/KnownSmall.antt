@@ -1,7 +1,7 @@
 -- Of a connection that the front end offers to a node, it counts no more responses than a message has room for.
 use Rattle.std.proofs.Common.{◌≡◌, ◌≤◌, ◌<◌, ◌+◌, ◌^◌, ℕ, false, List, [], length, Option, Some, None, sym, ◌∙◌, subst, arith}
 use Rattle.std.proofs.lemmas.List.{length-drop}
-use Rattle.lard_law_view.specs.Prelude.{ClientRules, Config, Conn, ControlBlock, Ending, FilesAt, FrontConn, FrontDeed, FrontEnv, FrontPart, FrontRest, FrontRow, FrontRules, IsControlBlock, IsUntouchedLaw, MAX_STREAM_BYTES, MayRestOn, Move, NodeRules, OfEach, Said, Seen, ServeEnv, Service, Setting, Station, Talk, Untouched, Verdict, answered, ended_at_fin, front_does, front_fired, front_reads, front_rest, front_rests, front_rule, grown, node_does, on_segment, serving_consumed, serving_settled, setting, spoken, tale_at}
+use Rattle.lard_law_view.specs.Prelude.{ClientRules, Config, Conn, ControlBlock, Ending, FilesAt, FrontConn, FrontDeed, FrontEnv, FrontPart, FrontRest, FrontRow, FrontRules, IsControlBlock, IsUntouchedLaw, MAX_STREAM_BYTES, MayRestOn, Move, NodeRules, OfEach, Said, Seen, ServeEnv, Service, Setting, Station, Talk, Untouched, Verdict, answered, ended_at_fin, front_does, front_fired, front_reads, front_rest, front_rests, front_rule, grown, node_does, on_segment, serving_consumed, serving_settled, setting, spoken, tale_at, with_leaving}
 use Rattle.lard_base.specs.declared.place.Via.TheVariants.{Own}
 use Rattle.lard_law_connections.specs.BytesAgreement.{ConnAgrees, FrontHolds, IsTruthful, SeatAgrees, StageAgrees}
 use Rattle.lard_law_connections.proofs.BytesRuns.{states-truthful}
@@ -186,4 +186,5 @@ module _ (k : Setting) where
 pub each-small : (config : Config) (files : List (List ℕ × List ℕ)) → config.stream ≤ MAX_STREAM_BYTES → OfEach config files (Untouched (λ x. IsSmall x.part.front))
 each-small config files most =
     let k : Setting = setting config files in
-    carried config files (Given k) (Untouched (λ x. IsSmall x.part.front)) (untouched-law k (Given k) (λ x. IsSmall x.part.front) (small-law k)) (λ m r q. states-truthful config files most m r q)
+    carried config files (Given k) (Untouched (λ x. IsSmall x.part.front)) (λ l. untouched-law (with_leaving k l) (Given k) (λ x. IsSmall x.part.front) (small-law (with_leaving k l)))
+    (λ m r q. states-truthful config files most m r q)

@@ -4,7 +4,7 @@ use Rattle.std.specs.FinMap as table
 use Rattle.std.proofs.lemmas.Bool.{both_ways}
 use Rattle.std.proofs.lemmas.Bool.Decides.{nat_tests}
 use Rattle.std.proofs.lemmas.Option.{slice_get_within}
-use Rattle.lard_law_view.specs.Prelude.{Client, ClientRules, Config, Conn, Front, FrontPart, FrontRules, Has, IsLaw, IsReached, Letter, Machine, MayRestOn, Move, Node, NodeEnv, NodePart, NodeRules, NodeState, OfEach, Part, Place, Seen, Setting, Station, TimerKind, conn, front_admitted, front_armed, front_does, grown, is_no_node, kept_at, letters_of, node_armed, node_at, node_does, nothing_kept, nothing_said, packet_seen, part_of, setting, stands}
+use Rattle.lard_law_view.specs.Prelude.{Client, ClientRules, Config, Conn, Front, FrontPart, FrontRules, Has, IsLaw, IsReached, Letter, Machine, MayRestOn, Move, Node, NodeEnv, NodePart, NodeRules, NodeState, OfEach, Part, Place, Seen, Setting, Station, TimerKind, conn, front_admitted, front_armed, front_does, grown, is_no_node, kept_at, letters_of, node_armed, node_at, node_does, nothing_kept, nothing_said, packet_seen, part_of, setting, stands, with_leaving}
 use Rattle.lard_law_view.proofs.EachClient.{each-client}
 use Rattle.lard_law_view.proofs.EachFront.{each-front}
 use Rattle.lard_law_view.proofs.EachNode.{Aside, NodeComes, aside_said, aside_seen, each-node, job_notes, node_goes, told_first}
@@ -126,7 +126,7 @@ late-law k = record {
 }
 
 late-always : (config : Config) (files : List (List ℕ × List ℕ)) → OfEach config files IsLate
-late-always config files = carried config files Anything IsLate (late-law (setting config files)) (λ m r q. tt)
+late-always config files = carried config files Anything IsLate (λ l. late-law (with_leaving (setting config files) l)) (λ m r q. tt)
 
 -- ---- timers that run
 

@@ -4,14 +4,14 @@ use Rattle.std.specs.Prelude.{◌⊎◌}
 use Rattle.std.specs.List.{AllByRecursion}
 use Rattle.lard_agenda.specs.Agenda.{seat}
 use Rattle.lard_agenda.specs.Laws.{IsSeated, NamesLowSeat, NamesSeat}
-use Rattle.lard_law_view.specs.Prelude.{Client, Config, Conn, EachMay, Event, Front, HasRule, HasTimer, IsConnNumber, IsMachine, IsReached, IsViewed, Machine, Move, Node, Packet, Part, Place, Rec, Rules, Setting, config_check, conn, machine_step, packets_of, part_of, sent_records, setting, timer_rows}
+use Rattle.lard_law_view.specs.Prelude.{Client, Config, Conn, EachMay, Event, Front, HasRule, HasTimer, IsConnNumber, IsMachine, IsReached, IsViewed, Machine, Move, Node, Packet, Part, Place, Rec, Rules, Setting, config_check, conn, machine_step, packets_of, part_of, sent_records, setting, timer_rows, with_leaving}
 use Rattle.lard_base.specs.declared.event.Event.TheVariants as event
 use Rattle.lard_base.proofs.Usable.{usable}
 use Rattle.lard_laws.proofs.RecordsThere.{only-nodes}
 use Rattle.lard_laws.specs.RecordsMessages.{MayBeThere}
 use Rattle.lard_law_view.proofs.Acts.{ActsAlone, ActsMany, IsPassing, IsStepOf, Moving, said_rows, step_acts, timers_in}
 use Rattle.lard_law_view.proofs.AnyShape.{SomeGift, SomeNote, some-noted}
-use Rattle.lard_law_view.proofs.Carried.{IsOn, carried-keep, on-setting}
+use Rattle.lard_law_view.proofs.Carried.{IsOn, carried-keep, on-rules}
 use Rattle.lard_law_view.proofs.Fine.{IsFine, IsItsOwn, fine}
 use Rattle.lard_law_view.proofs.Frames.{Owed, clients-leave, fronts-leave, nodes-leave}
 use Rattle.lard_law_view.proofs.Guarded.{both}
@@ -154,7 +154,7 @@ module _ (m : Machine) (view : IsViewed m) (e : Event) (adds : List Rec) where
 module _ (config : Config) (files : List (List ℕ × List ℕ)) where
   step-named : (k n : Machine) (e : Event) → IsOn config files k → AreNamed k.journal → HasRule e → machine_step k e ≡ Ok n → AreNamed n.journal
   step-named k n e on h rule is =
-      let step : IsStepOf Moves k n e = step_acts k n e Moves on.view (subst (λ (s : Setting). Rules s Moves) (on-setting config files k on) (moves (setting config files))) rule is in
+      let step : IsStepOf Moves k n e = step_acts k n e Moves on.view (on-rules config files Moves (λ l. moves (with_leaving (setting config files) l)) k on) rule is in
       subst AreNamed (sym step.journal) (Each-append IsNamed k.journal (rec.Event (k.events + 1) e ∷ step.adds) h (tt, adds-named k on.view e step.adds step.acts))
 
   pub named-always : (m : Machine) → IsReached config files m → AreNamed m.journal
