@@ -24,7 +24,8 @@ use Rattle.lard_settling.specs.Settling.{settled}
 
 module _ (config : Config) (files : List (List ℕ × List ℕ)) (checked : config_check config ≡ Ok tt) (are : All IsRunFile files) where
   -- all that is given of a connection within
-  known : (m p : Machine) → IsWithin config files m p → (q : ℕ) → Known (with_leaving (setting config files) (which_leave m)) (wholes (file_at files) m.journal) (conn p q)
+  known : (m p : Machine) → IsWithin config files m p → (q : ℕ)
+      → Known (with_leaving (setting config files) (which_leave m)) (wholes (file_at files) m.journal) (conn p q)
   known m p w q =
       let given = rules-given config files checked are m p w q in
       subst (λ (l : ℕ → Bool). Known (with_leaving (setting config files) l) (wholes (file_at files) m.journal) (conn p q)) w.leaving_same (

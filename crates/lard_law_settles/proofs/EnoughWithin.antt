@@ -118,7 +118,8 @@ module _ (config : Config) (files : List (List ℕ × List ℕ)) where
   takes-leaving [] p q same = ap (λ (k : Machine). which_leave k) same
   takes-leaving (c ∷ cs) p q on = takes-leaving cs on.0 q on.3 ∙ leaving-stays p on.0 (event.Take c) on.2
 
-  begun-leaving : (m n t : Machine) (rounds : ℕ) (w : Is config files n) → settle_begun m rounds ≡ Ok n → (b : Beside config files n w (takes n) t) → which_leave b.is.plain ≡ which_leave m
+  begun-leaving : (m n t : Machine) (rounds : ℕ) (w : Is config files n) → settle_begun m rounds ≡ Ok n → (b : Beside config files n w (takes n) t)
+      → which_leave b.is.plain ≡ which_leave m
   begun-leaving m n t rounds w begun b =
       takes-leaving (filter (is_holder n) (holders (agenda_of n.journal))) w.plain b.is.plain b.passes
       ∙ sym (ap (λ (k : Machine). which_leave k) w.same)

@@ -34,7 +34,8 @@ is-set config files m reached = carried-keep config files (IsSet config files) (
     (λ k n e on h rule is. let after = step-after k on.view e n rule is in record { config_is = after.config ∙ h.config_is; files_are = after.files ∙ h.files_are }) m reached
 
 -- with its own nodes that leave, they are its setting
-pub setting-is : (config : Config) (files : List (List ℕ × List ℕ)) (m : Machine) → IsReached config files m → with_leaving (setting config files) (which_leave m) ≡ setting_of m
+pub setting-is : (config : Config) (files : List (List ℕ × List ℕ)) (m : Machine) → IsReached config files m
+    → with_leaving (setting config files) (which_leave m) ≡ setting_of m
 setting-is config files m reached =
     let s = is-set config files m reached in
     λ i. record { files = file_at (sym s.files_are i); stream = (sym s.config_is i).stream; nodes = (sym s.config_is i).nodes; leaving = which_leave m }

@@ -14,7 +14,7 @@ use Rattle.lard_rules.specs.declared.node.BackIn.TheVariants as back
 -- ---- a node
 
 module _ (k : NodeSetting) where
-  -- it node_leaves as it did
+  -- it leaves as it did
   abbrev Same : NodeState → NodeState × Out → Type 0
   Same s x = node_leaves x.0 ≡ node_leaves s
 
@@ -64,7 +64,8 @@ leaving-stays m n e is = go (node-form m n e is) where
   go (inr step) =
       let t : NodeState = (node_step (node_setting m step.i) step.s step.comes).0 in
       let set : List NodeState = slice_set m.nodes (step.i - 1) t in
-      let one : (q : ℕ) → leaves_at (node_at set q) ≡ leaves_at (node_at m.nodes q) = λ q. by_number (leaves_at (node_at set q) ≡ leaves_at (node_at m.nodes q)) q step.i
+      let one : (q : ℕ) → leaves_at (node_at set q) ≡ leaves_at (node_at m.nodes q) =
+      λ q. by_number (leaves_at (node_at set q) ≡ leaves_at (node_at m.nodes q)) q step.i
       (λ same. subst (λ (z : ℕ). leaves_at (node_at set z) ≡ leaves_at (node_at m.nodes z)) (sym same)
       (ap leaves_at (node-set m.nodes step.i step.s t step.there) ∙ step-same (node_setting m step.i) step.s step.comes ∙ ap leaves_at (sym step.there)))
       (λ other. ap leaves_at (node-others m.nodes step.i q step.s t step.there other)) in
