@@ -18,6 +18,7 @@ use Rattle.lard_base.specs.declared.place.TimerKind.{TimerKind}
 use Rattle.lard_base.specs.declared.place.TimerKind.TheVariants.{Tcp, Ask, Fetch, Ended}
 use Rattle.lard_endpoint.specs.Arriving.{on_segment}
 use Rattle.lard_endpoint.specs.Control.{ControlBlock}
+use Rattle.lard_handoff_back.specs.Table.{table_put}
 use Rattle.lard_journal.specs.declared.rec.Rec.{Rec}
 use Rattle.lard_lateral.specs.Lateral.{after_content}
 use Rattle.lard_lateral.specs.Lateral as lateral
