@@ -1,11 +1,11 @@
 -- Journals in which a connection moves as it may not, and in which an Offer or a Give carries what it should not.
-use Rattle.std.specs.Prelude.{List, [], ◌∷◌, None, Some, codes}
+use Rattle.std.specs.Prelude.{ℕ, List, [], ◌∷◌, None, Some, codes}
 use Rattle.lard_base.specs.declared.event.Event.TheVariants as event
 use Rattle.lard_law_view.specs.Prelude.{Client, EachStep, Front, Node, Rec, request, steps}
 use Rattle.lard_law_connections.specs.Motion.{MustMove}
 use Rattle.lard_law_connections.specs.Offers.{CarryTheEndpoint}
 use Rattle.lard_journal.specs.declared.rec.Rec.TheVariants as rec
-use Rattle.lard_refusals.specs.Packets.{client_acknowledgement, give_without_bytes, offer, offer_without_bytes, syn}
+use Rattle.lard_refusals.specs.Packets.{client_acknowledgement, ended, give_without_bytes, offer, offer_without_bytes, refused, syn}
 use Rattle.lard_refusals.specs.Refusals.{Law, gave, took}
 
 -- ---- motion
@@ -43,11 +43,26 @@ offer_passed_over = rec.Event 1 (event.Timer Front 1) ∷ rec.Sent 1 Front (Node
 abbrev pub given_up_in_silence : List Rec
 given_up_in_silence = rec.Event 1 (event.Timer (Node 1) 1) ∷ gave (Node 1) 1 2 ∷ []
 
--- The front end takes a connection again, and no Ended came.
+-- The front end takes a connection again, and nothing came that brings it back.
 abbrev pub taken_back_with_no_end : List Rec
 taken_back_with_no_end =
     rec.Event 1 (event.Open 1 1000 5000 65535 1460) ∷ rec.Sent 1 (Client 1) Front syn ∷ rec.Event 2 (event.Deliver 1) ∷ rec.Got 1 ∷ took Front 1 1
     ∷ rec.Event 3 (event.Timer Front 1) ∷ took Front 1 3 ∷ []
+
+-- The front end gives a connection up, of which then this message comes, and takes it again in this epoch.
+abbrev pub back_by : List ℕ → ℕ → List Rec
+back_by bytes epoch =
+    rec.Event 1 (event.Open 1 1000 5000 65535 1460) ∷ rec.Sent 1 (Client 1) Front syn ∷ rec.Event 2 (event.Deliver 1) ∷ rec.Got 1 ∷ took Front 1 1
+    ∷ rec.Event 3 (event.Timer Front 1) ∷ rec.AssignedFirst 1 1 (codes "/a") 1 (Some 1) None ∷ gave Front 1 1 ∷ rec.Sent 2 Front (Node 1) offer
+    ∷ rec.Event 4 (event.Timer (Node 1) 1) ∷ rec.Sent 3 (Node 1) Front bytes ∷ rec.Event 5 (event.Deliver 3) ∷ rec.Got 3 ∷ took Front 1 epoch ∷ []
+
+-- A node refuses a connection, and the front end takes it again in another epoch than the next one.
+abbrev pub taken_back_late : List Rec
+taken_back_late = back_by refused 4
+
+-- An Ended comes of a connection that no node took, and the front end takes it again, two epochs behind that in which it gave it up.
+abbrev pub epoch_passed_over : List Rec
+epoch_passed_over = back_by ended 3
 
 -- A segment of the client comes while the connection is away, and is not forwarded.
 abbrev pub segment_not_forwarded : List Rec

@@ -14,6 +14,8 @@ pub fn motion_refuses()
     ensures offer_passed_over { Refuses the.motion the.offer_passed_over }
     ensures given_up_in_silence { Refuses the.motion the.given_up_in_silence }
     ensures taken_back_with_no_end { Refuses the.motion the.taken_back_with_no_end }
+    ensures taken_back_late { Refuses the.motion the.taken_back_late }
+    ensures epoch_passed_over { Refuses the.motion the.epoch_passed_over }
     ensures segment_not_forwarded { Refuses the.motion the.segment_not_forwarded }
 {}
 
