@@ -5,7 +5,7 @@ use Rattle.lard_law_view.specs.Prelude.{Client, EachStep, Front, Node, Rec, requ
 use Rattle.lard_law_connections.specs.Motion.{MustMove}
 use Rattle.lard_law_connections.specs.Offers.{CarryTheEndpoint}
 use Rattle.lard_journal.specs.declared.rec.Rec.TheVariants as rec
-use Rattle.lard_refusals.specs.Packets.{client_acknowledgement, ended, give_without_bytes, offer, offer_without_bytes, refused, syn}
+use Rattle.lard_refusals.specs.Packets.{client_acknowledgement, end_message, give_without_bytes, offer, offer_without_bytes, refused, syn}
 use Rattle.lard_refusals.specs.Refusals.{Law, gave, took}
 
 -- ---- motion
@@ -62,7 +62,7 @@ taken_back_late = back_by refused 4
 
 -- An Ended comes of a connection that no node took, and the front end takes it again, two epochs behind that in which it gave it up.
 abbrev pub epoch_passed_over : List Rec
-epoch_passed_over = back_by ended 3
+epoch_passed_over = back_by end_message 3
 
 -- A segment of the client comes while the connection is away, and is not forwarded.
 abbrev pub segment_not_forwarded : List Rec
