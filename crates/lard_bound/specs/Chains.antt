@@ -37,6 +37,7 @@ front_chain t c _ = 0
 abbrev pub node_chain : Body → ℕ
 node_chain (body.Ask number queue size paths) = 1
 node_chain (body.Ended reason snd rcv count) = 1
+node_chain (body.Give parts) = 1
 node_chain _ = 0
 
 -- what a node tells another one

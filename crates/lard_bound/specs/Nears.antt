@@ -5,7 +5,7 @@ use Rattle.lard_law_view.specs.Prelude.{Body, Client, FilesAt, Front, Job, Lette
 use Rattle.lard_base.specs.declared.place.Reason.TheVariants as reason
 use Rattle.lard_base.specs.declared.place.TimerKind.TheVariants as kind
 use Rattle.lard_bound.specs.Chains.{is_current, is_plain}
-use Rattle.lard_bound.specs.Spots.{AtFront, AtNode, Awaits, Ended, EndpointSymbols, InLine, Left, Nowhere, OnOffer, Post, Spot}
+use Rattle.lard_bound.specs.Spots.{AtFront, AtNode, Awaits, Declined, Ended, EndpointSymbols, GaveBack, InLine, Left, Nowhere, OnOffer, Post, Spot}
 use Rattle.lard_client.specs.declared.phase.Phase.TheVariants as phase
 use Rattle.lard_message.specs.declared.message.Body.TheVariants as body
 
@@ -60,8 +60,10 @@ NearWord t d s Nowhere = (is_plain_syn s ≡ true) × (1 ≤ d)
 NearWord t d s (AtFront e) = NearHeld t d e s t.phase
 NearWord t d s InLine = ⊥
 NearWord t d s (OnOffer n k) = ⊥
+NearWord t d s (Declined n k) = ⊥
 NearWord t d s (AtNode told n k e a) = NearAway t d e s
 NearWord t d s (Left told n k) = ⊥
+NearWord t d s (GaveBack told n k) = ⊥
 NearWord t d s (Ended last taken) = NearEnded t d taken s last.reason t.phase
 
 -- ---- the cluster's segments
@@ -102,8 +104,10 @@ NearSegment t d s Nowhere = ⊥
 NearSegment t d s (AtFront e) = NearReply t 2 d e s t.phase
 NearSegment t d s InLine = ⊥
 NearSegment t d s (OnOffer n k) = ⊥
+NearSegment t d s (Declined n k) = ⊥
 NearSegment t d s (AtNode told n k e a) = NearReply t 3 d e s t.phase
 NearSegment t d s (Left told n k) = ⊥
+NearSegment t d s (GaveBack told n k) = ⊥
 NearSegment t d s (Ended last taken) = NearClosing t d taken s last.reason t.phase
 
 -- ---- messages
@@ -113,18 +117,30 @@ abbrev pub IsUnaware : Bool → ℕ → Type 0
 IsUnaware true d = ⊥
 IsUnaware false d = 2 ≤ d
 
--- an Offer, to node k in epoch i
+-- an Offer, to node k in epoch i: one that was refused is refused again
 abbrev pub NearOffer : ℕ → ℕ → ℕ → Post → Type 0
 NearOffer d k i (OnOffer n e) = (n ≡ k) × (e ≡ i) × (1 ≤ d)
+NearOffer d k i (Declined n e) = (n ≡ k) × (e ≡ i) × (2 ≤ d)
 NearOffer d k i (AtNode told n e ends a) = (n ≡ k) × (e ≡ i) × IsUnaware told d
 NearOffer d k i (Left told n e) = (n ≡ k) × (e ≡ i) × IsUnaware told d
+NearOffer d k i (GaveBack told n e) = (n ≡ k) × (e ≡ i) × IsUnaware told d
 NearOffer d k i _ = ⊥
 
 -- a Taken in epoch i
 abbrev pub NearTaken : ℕ → ℕ → Post → Type 0
 NearTaken d i (AtNode false n e ends a) = (e ≡ i) × (1 ≤ d)
 NearTaken d i (Left false n e) = (e ≡ i) × (1 ≤ d)
+NearTaken d i (GaveBack false n e) = (e ≡ i) × (1 ≤ d)
 NearTaken d i _ = ⊥
+
+-- a refusal of node k in epoch i, and a Give
+abbrev pub NearRefused : ℕ → ℕ → ℕ → Post → Type 0
+NearRefused d k i (Declined n e) = (n ≡ k) × (e ≡ i) × (1 ≤ d)
+NearRefused d k i _ = ⊥
+
+abbrev pub NearGive : ℕ → ℕ → ℕ → Post → Type 0
+NearGive d k i (GaveBack told n e) = (n ≡ k) × (e ≡ i) × (1 ≤ d)
+NearGive d k i _ = ⊥
 
 -- a segment that is forwarded to node k
 abbrev pub NearForward : Spot → ℕ → ℕ → ℕ → Result Said SegFault → Post → Type 0
@@ -161,6 +177,8 @@ NearTold t c d k i _ = ⊥
 -- what node k tells the front end
 abbrev pub NearSaid : Spot → ℕ → ℕ → ℕ → Body → Type 0
 NearSaid t d k i body.Taken = NearTaken d i t.post
+NearSaid t d k i body.Refused = NearRefused d k i t.post
+NearSaid t d k i (body.Give parts) = NearGive d k i t.post
 NearSaid t d k i (body.Ask number queue size paths) = NearAsk 2 k i number (length paths) t.post × (2 ≤ d)
 NearSaid t d k i (body.Ended why snd rcv count) = NearEnding t d k i t.post
 NearSaid t d k i _ = ⊥

@@ -1,7 +1,7 @@
 -- What of a connection decides how much comes of a packet: it changes only where a unit goes.
 use Rattle.std.specs.Prelude.{ℕ, Bool, List, length, Option}
 use Rattle.lard_law_view.specs.Prelude.{ClientBlock, ControlBlock, FilesAt, Final, Kept, Part, Phase, Station, named_paths, rcv_nxt, symbols}
-use Rattle.lard_bound.specs.Seats.{Gone, Held, Here, Offered, Over, SeatNow, Staying, Unborn, Waiting, seat_of, tells_end}
+use Rattle.lard_bound.specs.Seats.{Gone, Held, Here, Offered, Over, Refused, Returned, SeatNow, Staying, Unborn, Waiting, seat_of, tells_end}
 use Rattle.lard_bound.specs.Units.{symbols_taken}
 use Rattle.lard_client.specs.declared.phase.Phase.TheVariants as phase
 
@@ -24,8 +24,10 @@ pub data Post : Type 0 where
   AtFront : EndpointSymbols → Post
   InLine : Post
   OnOffer : ℕ → ℕ → Post
+  Declined : ℕ → ℕ → Post
   AtNode : Bool → ℕ → ℕ → EndpointSymbols → Awaits → Post
   Left : Bool → ℕ → ℕ → Post
+  GaveBack : Bool → ℕ → ℕ → Post
   Ended : Final → ℕ → Post  -- the last numbers, and how many symbols of the cluster the client took
 
 pub record Spot : Type 0 where
@@ -53,8 +55,10 @@ post_of files x Unborn = Nowhere
 post_of files x (Held b count) = AtFront (ends_of x b)
 post_of files x (Waiting b count) = InLine
 post_of files x (Offered n e count) = OnOffer n e
+post_of files x (Refused n e count) = Declined n e
 post_of files x (Here told n e b s) = AtNode told n e (ends_of x b) (awaits_of files s)
 post_of files x (Gone told n e) = Left told n e
+post_of files x (Returned told n e served) = GaveBack told n e
 post_of files x (Over last) = Ended last (symbols_taken x)
 
 unfoldable pub spot_of : FilesAt → Part → Station → Spot

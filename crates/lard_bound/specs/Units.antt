@@ -4,7 +4,7 @@ use Rattle.lard_law_view.specs.Prelude.{ClientBlock, Conn, ControlBlock, Entry, 
 use Rattle.lard_base.specs.declared.ids.TheConstants.ConnId.{MAX}
 use Rattle.lard_client.specs.declared.phase.Phase.TheVariants.{Open, Aborted, Reset}
 use Rattle.lard_rules.specs.declared.stay.Progress.TheVariants.{Named, Reading, Awaited, Ready}
-use Rattle.lard_bound.specs.Seats.{Gone, Held, Here, Offered, Over, SeatNow, Staying, Unborn, Waiting, seat_of, tells_end}
+use Rattle.lard_bound.specs.Seats.{Gone, Held, Here, Offered, Over, Refused, Returned, SeatNow, Staying, Unborn, Waiting, seat_of, tells_end}
 
 -- ---- all that there is to do
 
@@ -62,11 +62,13 @@ heard_left k x Unborn = untaken k x + 1
 heard_left k x (Held b count) = block_left k x b
 heard_left k x (Waiting b count) = block_left k x b
 heard_left k x (Offered n e count) = untaken k x + 1
+heard_left k x (Refused n e count) = untaken k x + 1
 heard_left k x (Here told n e b s) = block_left k x b
+heard_left k x (Returned told n e served) = untaken k x + 1
 heard_left k x (Gone told n e) = ended_left k x x.phase
 heard_left k x (Over last) = ended_left k x x.phase
 
--- ---- the way of the connection
+-- ---- the way of the connection: where a node refused it, or gives it back, the front end places it anew
 
 -- a connection without a request is not handed off
 abbrev pub hand_off : ℕ → ℕ
@@ -78,7 +80,9 @@ seat_left k x Unborn = 3 + hand_off k.requests
 seat_left k x (Held b count) = 1 + hand_off k.requests + is_stale x b
 seat_left k x (Waiting b count) = 7
 seat_left k x (Offered n e count) = 6
+seat_left k x (Refused n e count) = 10
 seat_left k x (Here told n e b s) = 3 + one_if_not told + is_stale x b
+seat_left k x (Returned told n e served) = 10 + one_if_not told
 seat_left k x (Gone told n e) = 1 + one_if_not told
 seat_left k x (Over last) = 0
 
@@ -109,7 +113,9 @@ requests_left k Unborn = 4 * k.requests
 requests_left k (Held b count) = 4 * (k.requests - count)
 requests_left k (Waiting b count) = 4 * (k.requests - count)
 requests_left k (Offered n e count) = 4 * (k.requests - count)
+requests_left k (Refused n e count) = 4 * (k.requests - count)
 requests_left k (Here told n e b s) = stay_left k s
+requests_left k (Returned told n e served) = 4 * (k.requests - served)
 requests_left k (Gone told n e) = 0
 requests_left k (Over last) = 0
 

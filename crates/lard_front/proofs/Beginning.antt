@@ -56,7 +56,8 @@ module _ (s : FrontState) (c : ℕ) (syn : Said) (iss : ℕ) {m : Fronts} {r : F
     found = found;
     stage = refl;
     found_rest = found_rest;
-    here = record { early = omega arith; serves = listens_serve syn iss };
+    small = omega arith;
+    serves = listens_serve syn iss;
     none_kept = none;
     some_kept = some;
   }

@@ -10,12 +10,12 @@ use Rattle.lard_rules.specs.declared.front.FrontState.{FrontState}
 use Rattle.lard_rules.specs.FrontReading.{Reading, front_reads}
 use Rattle.lard_rules.proofs.FrontBlocks.{segment-serves}
 use Rattle.lard_rules.proofs.FrontTurns.{IsServed, reads-stop}
-use Rattle.lard_rules.specs.Front.{FrontDeed, FrontEnv, FrontPart, front_fired, holds, front_rest, settled_by, waits_on}
+use Rattle.lard_rules.specs.Front.{FrontDeed, FrontEnv, FrontPart, front_fired, front_read_by, holds, front_rest, settled_by, waits_on}
 use Rattle.lard_rules.specs.FrontPlace.{front_part}
 use Rattle.lard_rules.specs.FrontSound.{Serves}
 use Rattle.lard_front.specs.declared.turns.Around.{Around}
-use Rattle.lard_front.specs.Hand.{Holds, front_count_of, deed_turn, front_env_of, fires_held, fires_held_by, fires_waiting, fires_waiting_by, heard_at, front_heard_by, read_deed, reading_of, waits_heard, waits_heard_by}
-use Rattle.lard_front.proofs.Lent.{held_here, same_endpoint}
+use Rattle.lard_front.specs.Hand.{Holds, front_count_of, deed_turn, front_env_of, front_lent, fires_held, fires_held_by, fires_waiting, fires_waiting_by, heard_at, front_heard_by, read_deed, reading_of, reads_at, reads_by, reads_with, waits_heard, waits_heard_by}
+use Rattle.lard_front.proofs.Lent.{held_here, read_lent, same_endpoint}
 use Rattle.lard_handoff_front.specs.declared.row.FrontRow.{FrontRow}
 use Rattle.lard_handoff_front.specs.Front.{endpoint_of}
 use Rattle.lard_handoff_front.specs.Row.{held_in}
@@ -33,36 +33,54 @@ IsNew w n = (w.count ≡ n) × (w.notes ≡ []) × (w.answered ≡ 0) × (w.over
 pub begins : (b d : ControlBlock) (w : Served) (n m : ℕ) → IsNew w n → n ≡ m → b ≡ d → service_of b w ≡ serving d m []
 begins b d w n m is e f = λ i. record { block = f i; count = (is.0 ∙ e) i; notes = is.1 i; answered = is.2 i; over = is.3 i }
 
+-- a turn of reading begins with an endpoint that serves what was asked for
+module _ (b : ControlBlock) (n : ℕ) (serves : Serves n b.recv b.send) (w : Served) (is : IsNew w n) where
+  -- as many responses as before are counted
+  pub reading_counted : IsCounted b w
+  reading_counted = record { responses = omega (arith, serves.asked, is.0); bytes = omega (arith, is.2) }
+
+  -- and those that are queued then were asked for
+  pub reading_asked : (env : ServeEnv) (e : ControlBlock) (v : Served) (target : Option (List ℕ))
+      → reading_of e v target ≡ front_reads env (reading_of b w None) → v.count ≤ e.recv.got - length e.recv.unread
+  reading_asked env e v target read =
+      let stopped = reads-stop env (serving b n []) serves in
+      let begun = ap (λ x. front_reads env (record { service = x; target = None })) (begins b b w n n is refl refl) in
+      let all : IsServed (service_of e v) = subst (λ (x : Reading). IsServed x.service) (sym (read ∙ begun)) stopped.0 in
+      omega (arith, all.asked)
+
+-- it comes to what the definition says
+pub reads_are : (env : FrontEnv) (p : FrontPart) (b : ControlBlock) (n : ℕ) (w : Served) (e : ControlBlock) (v : Served) (target : Option (List ℕ)) → IsNew w n
+    → reading_of e v target ≡ front_reads env.serve (reading_of b w None) → (o : Option FrontRow)
+    → read_deed env p (service_of e v) target o ≡ reads_with env p b n o
+reads_are env p b n w e v target is read None = refl
+reads_are env p b n w e v target is read (Some row) =
+    ap (λ (y : Reading). settled_by env p row (front_rest p.rest) y.service y.target)
+    (read ∙ ap (λ x. front_reads env.serve (record { service = x; target = None })) (begins b b w n n is refl refl))
+
 -- the segment that came was taken by the endpoint, and a turn begins with it
-module _ {s : FrontState} {c : ℕ} {waiting : Bool} (h : Holds s c waiting) (said : Said) (w : Served) {b new : ControlBlock} {a : Arrival} {n : ℕ}
-    (out : endpoint_of (table.get s.conns c) ≡ Some b) (came : (a, new) ≡ on_segment b said) (is : IsNew w n) (counts : n ≡ front_count_of (table.get s.rests c)) where
-  took : new ≡ (on_segment h.block said).1
+module _ {s : FrontState} {c : ℕ} {waiting : Bool} (h : Holds s c waiting) (said : Said) {b new : ControlBlock} {a : Arrival} {n : ℕ}
+    (out : endpoint_of (table.get s.conns c) ≡ Some b) (came : (a, new) ≡ on_segment b said) (counts : n ≡ front_count_of (table.get s.rests c)) where
+  pub took : new ≡ (on_segment h.block said).1
   took = ap (λ (x : Arrival × ControlBlock). x.1) came ∙ ap (λ (x : ControlBlock). (on_segment x said).1) (same_endpoint s c waiting h b out)
 
-  many : n ≡ h.rest.count
-  many = counts ∙ ap front_count_of h.found_rest
-
-  pub segment_begins : service_of new w ≡ serving (on_segment h.block said).1 (front_count_of (table.get s.rests c)) []
-  segment_begins = begins new (on_segment h.block said).1 w n (front_count_of (table.get s.rests c)) is counts took
+  many : h.rest.count ≡ n
+  many = sym (counts ∙ ap front_count_of h.found_rest)
 
   -- it serves on what was asked for
-  served : Serves h.rest.count (on_segment h.block said).1.recv (on_segment h.block said).1.send
-  served = segment-serves h.rest.count h.block said h.here.serves
+  pub segment_serves : Serves n new.recv new.send
+  segment_serves =
+      subst (λ m. Serves m new.recv new.send) many
+      (subst (λ (d : ControlBlock). Serves h.rest.count d.recv d.send) (sym took) (segment-serves h.rest.count h.block said h.serves))
 
-  -- as many responses as before are counted, and were asked for
-  pub segment_counted : IsCounted new w
-  segment_counted =
-      let got = subst (λ (d : ControlBlock). h.rest.count ≤ d.recv.got) (sym took) (omega (arith, served.asked)) in
-      record { responses = omega (arith, got, is.0, many); bytes = omega (arith, is.2) }
+  pub segment_begins : (w : Served) → IsNew w n → service_of new w ≡ serving (on_segment h.block said).1 (front_count_of (table.get s.rests c)) []
+  segment_begins w is = begins new (on_segment h.block said).1 w n (front_count_of (table.get s.rests c)) is counts took
 
-  pub segment_asked : (env : ServeEnv) (e : ControlBlock) (v : Served) (target : Option (List ℕ)) → reading_of e v target ≡ front_reads env (reading_of new w None)
-      → v.count ≤ e.recv.got - length e.recv.unread
-  segment_asked env e v target read =
-      let begun = begins new (on_segment h.block said).1 w n h.rest.count is many took in
-      let stopped = reads-stop env (serving (on_segment h.block said).1 h.rest.count []) served in
-      let all : IsServed (service_of e v) =
-      subst (λ (x : Reading). IsServed x.service) (sym (read ∙ ap (λ x. front_reads env (record { service = x; target = None })) begun)) stopped.0 in
-      omega (arith, all.asked)
+-- as it was taken out
+pub held_serves : {s : FrontState} {c : ℕ} {waiting : Bool} (h : Holds s c waiting) {b : ControlBlock} {n : ℕ}
+    → endpoint_of (table.get s.conns c) ≡ Some b → n ≡ front_count_of (table.get s.rests c) → Serves n b.recv b.send
+held_serves {s = s} {c = c} {waiting = waiting} h {b = b} {n = n} out counts =
+    subst (λ m. Serves m b.recv b.send) (sym (counts ∙ ap front_count_of h.found_rest))
+    (subst (λ (d : ControlBlock). Serves h.rest.count d.recv d.send) (sym (same_endpoint s c waiting h b out)) h.serves)
 
 -- ---- the rules of a connection whose endpoint is here
 
@@ -87,10 +105,36 @@ module _ (around : Around) (s : FrontState) (waiting : Bool) (h : Holds s around
       → deed_turn s k (by (Some h.block)) ≡ deed_turn s k (at (table.get s.conns k))
   here at by same = ap (deed_turn s k) (sym (ap by (ap held_in h.stage ∙ held_here waiting h.block)) ∙ same ∙ sym (ap at h.found))
 
-  pub heard_is : (said : Said) {x : Reading} → x ≡ front_reads env.serve (record { service = serving (on_segment h.block said).1 rest.count []; target = None })
-      → deed_turn s k (read_deed env p x.service x.target (Some h.row)) ≡ deed_turn s k (heard_at env p said (table.get s.conns k))
-  heard_is said read =
-      ap (λ (y : Reading). deed_turn s k (settled_by env p h.row rest y.service y.target)) read ∙ here (heard_at env p said) (front_heard_by env p said h.row) refl
+  abbrev lent : FrontState
+  lent = front_lent s k
+
+  abbrev Read : ControlBlock → ℕ → Reading
+  Read b n = front_reads env.serve (record { service = serving b n []; target = None })
+
+  abbrev Reads : ControlBlock → ℕ → FrontDeed
+  Reads b n = front_read_by env p h.row rest (Read b n)
+
+  -- what is read of the endpoint that was taken out
+  abbrev ReadsLent : ControlBlock → ℕ → FrontDeed
+  ReadsLent b n = reads_with (front_env_of around lent) (front_part lent k) b n (table.get lent.conns k)
+
+  lent_reads : (b : ControlBlock) (n : ℕ) → deed_turn lent k (ReadsLent b n) ≡ deed_turn s k (Reads b n)
+  lent_reads b n =
+      ap (deed_turn lent k) (as_read (table.get lent.conns k)) ∙ read_lent around s h.row h.found (Read b n).service (Read b n).target where
+        as_read : (o : Option FrontRow) → reads_with (front_env_of around lent) (front_part lent k) b n o
+            ≡ read_deed (front_env_of around lent) (front_part lent k) (Read b n).service (Read b n).target o
+        as_read None = refl
+        as_read (Some row) = refl
+
+  pub heard_is : (said : Said) {b : ControlBlock} {n : ℕ} → b ≡ (on_segment h.block said).1 → n ≡ rest.count
+      → deed_turn lent k (ReadsLent b n) ≡ deed_turn s k (heard_at env p said (table.get s.conns k))
+  heard_is said {b = b} {n = n} took counts =
+      lent_reads b n ∙ (λ i. deed_turn s k (Reads (took i) (counts i))) ∙ here (heard_at env p said) (front_heard_by env p said h.row) refl
+
+  pub reads_on_is : {b : ControlBlock} {n : ℕ} → endpoint_of (table.get s.conns k) ≡ Some b → n ≡ rest.count
+      → deed_turn lent k (ReadsLent b n) ≡ deed_turn s k (reads_at env p (table.get s.conns k))
+  reads_on_is {b = b} {n = n} out counts =
+      lent_reads b n ∙ (λ i. deed_turn s k (Reads (same_endpoint s k waiting h b out i) (counts i))) ∙ here (reads_at env p) (reads_by env p h.row) refl
 
   pub waits_heard_is : (said : Said) {given : Ending × Turn} → given ≡ spoken env.serve (serving (on_segment h.block said).1 rest.count []) []
       → deed_turn s k (waits_on env p h.row rest given) ≡ deed_turn s k (waits_heard env p said (table.get s.conns k))

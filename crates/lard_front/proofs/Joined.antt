@@ -1,18 +1,20 @@
 -- A connection that ended, and the head of the line behind it.
-use Rattle.std.proofs.Common.{◌≡◌, ℕ, List, [], Option, Some, None, Result, Ok, Err, IfOk, OnOk, option_map, refl, sym, ap, ◌∙◌, subst}
+use Rattle.std.proofs.Common.{◌≡◌, ℕ, ◌≤◌, List, [], Option, Some, None, Result, Ok, Err, IfOk, OnOk, option_map, refl, sym, ap, ◌∙◌, subst, arith}
 use Rattle.std.specs.FinMap as table
-use Rattle.lard_dispatch.specs.Sound.{AreBefore}
+use Rattle.lard_base.proofs.Usable.{usable}
+use Rattle.lard_dispatch.specs.Books.{Dispatcher}
+use Rattle.lard_dispatch.specs.Sound.{AreBefore, IsDispatcherSound}
 use Rattle.lard_rules.specs.declared.front.FrontState.{FrontState}
 use Rattle.lard_rules.specs.declared.front.FrontTurn.{FrontTurn}
 use Rattle.lard_rules.specs.Front.{FrontDeed, Drops, Says, Does, Did, FrontPart, front_admitted, front_ended}
 use Rattle.lard_rules.specs.FrontPlace.{FrontSetting, admits, admits_too, ended_deed, front_deed, front_env, front_part, front_put, front_step, in_order, front_joined, front_out_of, put_back, front_timers}
-use Rattle.lard_rules.specs.FrontSound.{IsFrontSound, MayDrain, Waits, dispatch_standing}
+use Rattle.lard_rules.specs.FrontSound.{IsFrontSound, MayClose, OpenNodes, Waits, dispatch_standing, open_nodes_of}
 use Rattle.lard_rules.proofs.FrontEnded.{Comes, end-comes, next-waits}
 use Rattle.lard_rules.proofs.FrontKeeping.{put-some}
 use Rattle.lard_rules.proofs.FrontParts.{part_put}
 use Rattle.lard_rules.proofs.FrontStepping.{step-stays}
 use Rattle.lard_front.specs.declared.turns.Armed.{Armed}
-use Rattle.lard_front.specs.Hand.{armed_of, changes, deed_turn, gives, next_admitted_by}
+use Rattle.lard_front.specs.Hand.{HeadWaits, armed_of, changes, deed_turn, gives, next_admitted_by}
 use Rattle.lard_front.specs.Place.{head_too}
 use Rattle.lard_front.proofs.Steps.{changes_are}
 use Rattle.lard_journal.specs.declared.rec.Rec.{Rec}
@@ -23,20 +25,39 @@ use Rattle.lard_endpoint.specs.declared.control.moving.Final.{Final}
 
 -- ---- a connection that waits is handed off
 
+-- there are at most 64 nodes, so no epoch is late
+pub few-nodes : (d : Dispatcher) → IsDispatcherSound d → d.config.nodes ≤ 64
+few-nodes d sound = (usable d.config sound.usable).nodes
+
+pub waits_as : (s : FrontState) (d : ℕ) (nodes : OpenNodes) → nodes.all ≤ 64 → Waits nodes (front_part s d) → (table.get s.kept d ≡ Some [] → ⊥) → HeadWaits s d
+waits_as s d nodes few waits some = let early = waits.here.early in record { nodes = nodes; waits = waits; small = omega (arith, few, early); some = some }
+
 -- what was given to the code is what the rules give
-pub too_is : (s : FrontState) (turn : FrontTurn) (timers : List Rec) (c d : ℕ) (o : Option (FrontPart × FrontTurn)) {n : FrontState} {t all : FrontTurn} {was is : Armed} {others both : List Rec}
-    → option_map (gives s d) o ≡ Some (n, t) → all ≡ front_joined turn t → was ≡ armed_of (front_part s d) → is ≡ armed_of (front_part n d) → others ≡ changes d was is
-    → both ≡ in_order c d timers others → (n, front_out_of all both) ≡ head_too s turn timers c d o
-too_is s turn timers c d None {n = n} {t = t} given joins before after changed order = let no : ◌≡◌ {A = Option (FrontState × FrontTurn)} None (Some (n, t)) = given in absurd cc
-too_is s turn timers c d (Some y) {n = n} {t = t} {others = others} given joins before after changed order =
+pub handed_is : (s : FrontState) (d : ℕ) (o : Option (FrontPart × FrontTurn)) {n : FrontState} {t : FrontTurn} {timers : List Rec}
+    → option_map (gives s d) o ≡ Some (n, t) → timers ≡ changes d (armed_of (front_part s d)) (armed_of (front_part n d))
+    → (y : FrontPart × FrontTurn) × (o ≡ Some y) × (n ≡ front_put s d y.0) × (t ≡ y.1) × (timers ≡ front_timers d (front_part s d) y.0)
+handed_is s d None {n = n} {t = t} given changed = let no : ◌≡◌ {A = Option (FrontState × FrontTurn)} None (Some (n, t)) = given in absurd cc
+handed_is s d (Some y) {n = n} {t = t} given changed =
     let same : (n, t) ≡ gives s d y = some_is (n, t) (gives s d y) given in
     let state : n ≡ front_put s d y.0 = ap (λ (x : FrontState × FrontTurn). x.0) same in
-    let told : t ≡ y.1 = ap (λ (x : FrontState × FrontTurn). x.1) same in
-    let timed : others ≡ front_timers d (front_part s d) y.0 =
-    changed ∙ (λ i. changes d (before i) ((after ∙ ap (λ (u : FrontState). armed_of (front_part u d)) state ∙ ap armed_of (part_put s d y.0)) i)) ∙ changes_are d (front_part s d) y.0 in
-    (λ i. (state i, front_out_of ((joins ∙ ap (front_joined turn) told) i) ((order ∙ ap (in_order c d timers) timed) i))) where
+    let there : front_part n d ≡ y.0 = ap (λ (u : FrontState). front_part u d) state ∙ part_put s d y.0 in (
+      y,
+      refl,
+      state,
+      ap (λ (x : FrontState × FrontTurn). x.1) same,
+      changed ∙ ap (λ (p : FrontPart). changes d (armed_of (front_part s d)) (armed_of p)) there ∙ changes_are d (front_part s d) y.0,
+    ) where
       some_is : (x y : FrontState × FrontTurn) → Some y ≡ Some x → x ≡ y
       some_is x y e = cc
+
+pub too_is : (s : FrontState) (turn : FrontTurn) (timers : List Rec) (c d : ℕ) (o : Option (FrontPart × FrontTurn))
+    {n : FrontState} {t all : FrontTurn} {others both : List Rec}
+    → option_map (gives s d) o ≡ Some (n, t) → all ≡ front_joined turn t → others ≡ changes d (armed_of (front_part s d)) (armed_of (front_part n d))
+    → both ≡ in_order c d timers others → (n, front_out_of all both) ≡ head_too s turn timers c d o
+too_is s turn timers c d o given joins changed order =
+    let h = handed_is s d o given changed in
+    (λ i. (h.2 i, front_out_of ((joins ∙ ap (front_joined turn) h.3) i) ((order ∙ ap (in_order c d timers) h.4) i)))
+    ∙ sym (ap (head_too s turn timers c d) h.1)
 
 -- ---- an end
 
@@ -74,28 +95,30 @@ module _ (k : FrontSetting) (s : FrontState) (c : ℕ) where
     abbrev ended : FrontDeed
     ended = front_ended (front_env k s c 0) (front_part s c) from epoch last
 
-    head_waits : {t : FrontState} {turn : FrontTurn} {next : ℕ × FirstChoice} (deed : FrontDeed) → Comes (front_env k s c 0) (front_part s c) from epoch last (dispatch_standing s.dispatch c) deed
-        → (t, turn) ≡ deed_turn s c deed → Some next ≡ next_admitted_by s.dispatch c k.now deed → Waits (front_part t next.0) × (table.get t.kept next.0 ≡ Some [] → ⊥)
+    head_waits : {t : FrontState} {turn : FrontTurn} {next : ℕ × FirstChoice} (deed : FrontDeed)
+        → Comes (open_nodes_of s.dispatch) (front_env k s c 0) (front_part s c) from epoch last (dispatch_standing s.dispatch c) deed
+        → (t, turn) ≡ deed_turn s c deed → Some next ≡ next_admitted_by s.dispatch c k.now deed → HeadWaits t next.0
     head_waits {next = next} Drops comes did some = let no : Some next ≡ None = some in absurd cc
     head_waits {next = next} (Says said) comes did some = let no : Some next ≡ None = some in absurd cc
     head_waits {t = t} {next = next} (Does x) comes did some =
-        let state : put_back s c x ≡ t = sym (ap (λ (y : FrontState × FrontTurn). y.0) did) in (
-          subst (λ u. Waits (front_part u next.0)) state (next-waits k s c from epoch last x next sound comes (sym some)),
-          subst (λ u. table.get u.kept next.0 ≡ Some [] → ⊥) state (put-some s c x.part sound.some next.0),
-        )
+        subst (λ t. HeadWaits t next.0) (sym (ap (λ (y : FrontState × FrontTurn). y.0) did))
+        (waits_as (put_back s c x) next.0 (open_nodes_of s.dispatch) (few-nodes s.dispatch sound.books)
+        (next-waits k s sound c x comes.2 next (sym some)) (put-some s c x.part sound.some next.0))
 
-    pub ended_waits : {t : FrontState} {turn : FrontTurn} {next : ℕ × FirstChoice} → (t, turn) ≡ deed_turn s c ended → Some next ≡ next_admitted_by s.dispatch c k.now ended
-        → Waits (front_part t next.0) × (table.get t.kept next.0 ≡ Some [] → ⊥)
-    ended_waits did some = head_waits ended (end-comes (front_env k s c 0) (front_part s c) from epoch last (dispatch_standing s.dispatch c) (sound.each c)) did some
+    pub ended_waits : {t : FrontState} {turn : FrontTurn} {next : ℕ × FirstChoice} → (t, turn) ≡ deed_turn s c ended
+        → Some next ≡ next_admitted_by s.dispatch c k.now ended → HeadWaits t next.0
+    ended_waits did some =
+        head_waits ended (end-comes (open_nodes_of s.dispatch) (front_env k s c 0) (front_part s c) from epoch last (dispatch_standing s.dispatch c) (sound.each c)) did some
 
 -- ---- a step
 
-pub step_sound : {E : Type 0} (k : FrontSetting) (s n : FrontState) (in_ : FrontIn) (r : Result Out E) → MayDrain s in_ → IsFrontSound s
+pub step_sound : {E : Type 0} (k : FrontSetting) (s n : FrontState) (in_ : FrontIn) (r : Result Out E) → MayClose s in_ → IsFrontSound s
     → IfOk r (λ out. (n, out) ≡ front_step k s in_) → OnOk r (IsFrontSound n)
 step_sound k s n in_ (Ok out) may sound is = subst IsFrontSound (sym (ap (λ (x : FrontState × Out). x.0) is)) (step-stays k s in_ may sound).sound
 step_sound k s n in_ (Err e) may sound is = tt
 
-pub step_before : {E : Type 0} (k : FrontSetting) (s n : FrontState) (in_ : FrontIn) (r : Result Out E) → MayDrain s in_ → IsFrontSound s → AreBefore k.now.0 s.dispatch.books.sets
+pub step_before : {E : Type 0} (k : FrontSetting) (s n : FrontState) (in_ : FrontIn) (r : Result Out E)
+    → MayClose s in_ → IsFrontSound s → AreBefore k.now.0 s.dispatch.books.sets
     → IfOk r (λ out. (n, out) ≡ front_step k s in_) → OnOk r (AreBefore k.now.0 n.dispatch.books.sets)
 step_before k s n in_ (Ok out) may sound clock is =
     subst (λ (u : FrontState). AreBefore k.now.0 u.dispatch.books.sets) (sym (ap (λ (x : FrontState × Out). x.0) is)) ((step-stays k s in_ may sound).clock clock)

@@ -65,7 +65,7 @@ lends s c waiting h = record {
   found = lent_found s c h.row h.found;
   stage = refl;
   found_rest = h.found_rest;
-  early = h.here.early;
+  small = h.small;
   none_kept = h.none_kept;
   some_kept = h.some_kept;
 }

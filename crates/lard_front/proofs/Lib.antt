@@ -9,3 +9,4 @@ pub mod Admitted
 pub mod Assigning
 pub mod Bounded
 pub mod Joined
+pub mod Returned

@@ -1,5 +1,5 @@
 -- What the code of the front end has in hand, as the rules have it.
-use Rattle.std.specs.Prelude.{◌≡◌, ℕ, ◌++◌, Bool, List, [], false, ◌∷◌, Option, Some, None}
+use Rattle.std.specs.Prelude.{◌≡◌, ℕ, ◌<◌, ◌++◌, Bool, List, [], false, ◌∷◌, Option, Some, None}
 use Rattle.std.specs.FinMap as table
 use Rattle.lard_base.specs.declared.ids.Millis.{Millis}
 use Rattle.lard_base.specs.declared.place.Place.TheVariants as place
@@ -14,10 +14,10 @@ use Rattle.lard_endpoint.specs.Arriving.{on_segment}
 use Rattle.lard_rules.specs.declared.front.FrontRest.{FrontRest}
 use Rattle.lard_rules.specs.declared.front.FrontState.{FrontState}
 use Rattle.lard_rules.specs.declared.front.FrontTurn.{FrontTurn}
-use Rattle.lard_rules.specs.Front.{FrontDeed, Drops, Says, Does, FrontEnv, FrontPart, front_fired, front_armed, handed_off, heard, holds, leaves_by, front_rest, front_rests, front_saying, settled_by, turn_here, waits_on}
+use Rattle.lard_rules.specs.Front.{FrontDeed, Drops, Says, Does, FrontEnv, FrontPart, front_fired, front_armed, front_read_by, handed_off, heard, holds, leaves_by, front_rest, front_rests, front_saying, settled_by, turn_here, waits_on}
 use Rattle.lard_rules.specs.FrontPlace.{front_part, front_put, front_out_of, put_back}
-use Rattle.lard_rules.specs.FrontReading.{MayMove, Reading}
-use Rattle.lard_rules.specs.FrontSound.{IsEarlyHere, IsHere}
+use Rattle.lard_rules.specs.FrontReading.{MayMove, Reading, front_reads}
+use Rattle.lard_rules.specs.FrontSound.{OpenNodes, Serves, Waits}
 use Rattle.lard_front.specs.declared.reading.Going.{Going}
 use Rattle.lard_front.specs.declared.reading.Going.TheVariants.{On, Last}
 use Rattle.lard_front.specs.declared.turns.Armed.{Armed}
@@ -119,7 +119,8 @@ pub record Holds (s : FrontState) (c : ℕ) (waiting : Bool) : Type 0 where
   pub found : table.get s.conns c ≡ Some row
   pub stage : row.stage ≡ in_stage waiting block
   pub found_rest : table.get s.rests c ≡ Some rest
-  pub here : IsHere row.epoch.0 block rest
+  pub small : row.epoch.0 < 65000
+  pub serves : Serves rest.count block.recv block.send
   pub none_kept : held s.kept c ≡ []
   pub some_kept : table.get s.kept c ≡ Some [] → ⊥
 
@@ -130,7 +131,7 @@ pub record Lends (s : FrontState) (c : ℕ) : Type 0 where
   pub found : table.get s.conns c ≡ Some row
   pub stage : row.stage ≡ stage.Lent
   pub found_rest : table.get s.rests c ≡ Some rest
-  pub early : IsEarlyHere row.epoch.0
+  pub small : row.epoch.0 < 65000
   pub none_kept : held s.kept c ≡ []
   pub some_kept : table.get s.kept c ≡ Some [] → ⊥
 
@@ -183,6 +184,21 @@ abbrev pub heard_at : FrontEnv → FrontPart → Said → Option FrontRow → Fr
 heard_at env p s None = Drops
 heard_at env p s (Some row) = front_heard_by env p s row (held_in row.stage)
 
+-- what may be read of an endpoint in hand is read, behind so many responses
+abbrev pub reads_with : FrontEnv → FrontPart → ControlBlock → ℕ → Option FrontRow → FrontDeed
+reads_with env p b count None = Drops
+reads_with env p b count (Some row) =
+    front_read_by env p row (front_rest p.rest) (front_reads env.serve (record { service = serving b count []; target = None }))
+
+abbrev pub reads_by : FrontEnv → FrontPart → FrontRow → Option ControlBlock → FrontDeed
+reads_by env p row None = Drops
+reads_by env p row (Some b) = heard env p row (front_rest p.rest) b
+
+-- it is held, and reads on
+abbrev pub reads_at : FrontEnv → FrontPart → Option FrontRow → FrontDeed
+reads_at env p None = Drops
+reads_at env p (Some row) = reads_by env p row (held_in row.stage)
+
 abbrev pub waits_heard_by : FrontEnv → FrontPart → Said → FrontRow → Option ControlBlock → FrontDeed
 waits_heard_by env p s row None = Drops
 waits_heard_by env p s row (Some b) = waits_on env p row (front_rest p.rest) (spoken env.serve (serving (on_segment b s).1 (front_rest p.rest).count []) [])
@@ -216,6 +232,13 @@ abbrev pub next_admitted_by : Dispatcher → ℕ → Millis → FrontDeed → Op
 next_admitted_by d c time Drops = None
 next_admitted_by d c time (Says turn) = None
 next_admitted_by d c time (Does x) = ended_answer d c time
+
+-- The first of the line waits.
+pub record HeadWaits (s : FrontState) (d : ℕ) : Type 0 where
+  pub nodes : OpenNodes
+  pub waits : Waits nodes (front_part s d)
+  pub small : waits.row.epoch.0 < 65000
+  pub some : table.get s.kept d ≡ Some [] → ⊥
 
 -- the path with which a connection waits
 abbrev pub target_of : Option FrontRest → Option (List ℕ)

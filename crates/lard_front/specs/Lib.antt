@@ -3,3 +3,4 @@ pub mod Told
 pub mod Asking
 pub mod Bounds
 pub mod Place
+pub mod Returned

@@ -67,7 +67,7 @@ pub fn asked(
 }
 
 /// Whether the connection is with this node, in this epoch.
-fn is_at(row: Option<&FrontRow>, from: NodeId, epoch: Epoch) -> bool
+pub fn is_at(row: Option<&FrontRow>, from: NodeId, epoch: Epoch) -> bool
     ensures { result ≡ is_row_at from epoch.0 (option_copied row.entry) }
 {
     match row {

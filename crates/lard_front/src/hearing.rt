@@ -5,8 +5,9 @@ ghost use Rattle.std.specs.FinMap as table;
 ghost use Rattle.lard_base.specs.declared.limits.TheConstants.{MAX_STREAM_BYTES};
 ghost use Rattle.lard_rules.specs.FrontPlace.{front_part};
 ghost use Rattle.lard_rules.specs.FrontReading.{MayMove};
+ghost use Rattle.lard_rules.specs.FrontSound.{Serves};
 ghost use Rattle.lard_front.specs.Bounds.{IsFrontTurn};
-ghost use Rattle.lard_front.specs.Hand.{Holds, IsFree, Lends, deed_turn, front_env_of, fires_held, fires_waiting, heard_at, read_deed, waits_heard};
+ghost use Rattle.lard_front.specs.Hand.{Holds, IsFree, Lends, deed_turn, front_env_of, fires_held, fires_waiting, heard_at, read_deed, reads_at, reads_with, waits_heard};
 ghost use Rattle.lard_handoff_front.specs.Front.{may_put};
 ghost use Rattle.lard_endpoint.specs.Leaving.{after_timer, timed};
 ghost use Rattle.lard_rules.specs.Serving.{serving_ready_of, serving, spoken};
@@ -44,6 +45,46 @@ pub fn hear_held(
     let mut endpoint = take_out(state, c);
     endpoint.law();
     let _arrival = endpoint.arrive(segment);
+    read_on(state, alloc, around, endpoint, count)
+}
+
+/// What may be read of a connection that is held is read. Without memory the state is of no use any more but to be spent.
+pub fn read_held(
+    state: &mut FrontState,
+    alloc: Global,
+    around: &Around<'_>,
+) -> Result<FrontTurn, NoMemory>
+    requires holds { Holds state.old around.now.serve.c false }
+    requires free { IsFree state.old.dispatch around.now.serve.c around.now.time.0 }
+    requires stream { around.now.serve.stream ≤ MAX_STREAM_BYTES }
+    ensures turn { IfOk result (λ turn. (state.new, turn) ≡ deed_turn state.old around.now.serve.c
+        (reads_at (front_env_of around.now state.old) (front_part state.old around.now.serve.c) (table.get state.old.conns around.now.serve.c))) }
+    ensures fits { IfOk result IsFrontTurn }
+{
+    let c = around.serve.c;
+    let count = count_of(&state.rests, c);
+    let endpoint = take_out(state, c);
+    read_on(state, alloc, around, endpoint, count)
+}
+
+/// What may be read of an endpoint in hand is read, behind so many responses.
+fn read_on(
+    state: &mut FrontState,
+    alloc: Global,
+    around: &Around<'_>,
+    mut endpoint: Endpoint,
+    count: u32,
+) -> Result<FrontTurn, NoMemory>
+    requires lends { Lends state.old around.now.serve.c }
+    requires lent { may_put (table.get state.old.conns around.now.serve.c) ≡ true }
+    requires free { IsFree state.old.dispatch around.now.serve.c around.now.time.0 }
+    requires stream { around.now.serve.stream ≤ MAX_STREAM_BYTES }
+    requires serves { Serves count endpoint.recv endpoint.send }
+    ensures turn { IfOk result (λ turn. (state.new, turn) ≡ deed_turn state.old around.now.serve.c
+        (reads_with (front_env_of around.now state.old) (front_part state.old around.now.serve.c) endpoint count (table.get state.old.conns around.now.serve.c))) }
+    ensures fits { IfOk result IsFrontTurn }
+{
+    let c = around.serve.c;
     let mut service = Service::new(alloc, count);
     match read(alloc, &around.serve, &mut endpoint, &mut service) {
         Ok(target) => {

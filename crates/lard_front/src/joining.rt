@@ -1,12 +1,14 @@
 //! The end of a connection and the admission behind it, in one step.
 
-ghost use Rattle.std.specs.Prelude.{◌≡◌, [], ◌++◌, IfOk, Some};
+ghost use Rattle.std.specs.Prelude.{◌≡◌, ◌≤◌, [], ◌++◌, IfOk, Some, option_map};
+ghost use Rattle.lard_base.specs.declared.limits.TheConstants.{MAX_STREAM_BYTES};
 ghost use Rattle.std.specs.FinMap as table;
 ghost use Rattle.lard_dispatch.specs.Sound.{AreBefore};
 ghost use Rattle.lard_rules.specs.Front.{front_admitted, front_ended};
 ghost use Rattle.lard_rules.specs.FrontPlace.{ended_deed, front_env, front_part, in_order, front_joined};
-ghost use Rattle.lard_rules.specs.FrontSound.{IsFrontSound, Waits};
+ghost use Rattle.lard_rules.specs.FrontSound.{IsFrontSound};
 ghost use Rattle.lard_front.specs.Bounds.{IsFrontOut, IsFrontTurn};
+ghost use Rattle.lard_front.specs.Hand.{HeadWaits, armed_of, changes, gives};
 ghost use Rattle.lard_front.specs.Place.{head_too, front_setting_seen};
 
 use crate::admitting::admit;
@@ -68,38 +70,73 @@ fn admits_too(
     timers: Recs,
     next: (ConnId, FirstChoice),
 ) -> Result<Out, NoMemory>
-    requires head { Waits (front_part state.old next.0) }
-    requires some { table.get state.old.kept next.0 ≡ Some [] → ⊥ }
+    requires head { HeadWaits state.old next.0 }
     requires fits { IsFrontTurn turn }
     requires quiet { turn.segments ≡ [] }
     ensures out { IfOk result (λ out. (state.new, out) ≡ head_too state.old turn timers c next.0
         (front_admitted (front_env (front_setting_seen setting.entry.now) state.old next.0 0) (front_part state.old next.0) next.1)) }
     ensures fits { IfOk result IsFrontOut }
 {
-    let (head, choice) = next;
+    let Head {
+        c: head,
+        turn: admitted,
+        timers: others,
+    } = hand_head(state, alloc, setting, next)?;
+    let answered = turn.answered;
+    let all = joined(turn, admitted, answered)?;
+    Ok(out_of(all, in_order(c, head, timers, others)?))
+}
+
+/// What is done for the head of the line, or nothing.
+#[derive(Debug, Drop)]
+pub struct Head {
+    /// The head, or the connection that made room.
+    pub c: ConnId,
+    pub turn: FrontTurn,
+    /// The records of its timers.
+    pub timers: Recs,
+}
+
+/// The first of the line is handed off by the dispatcher's choice. Without memory the state is of no use any more but to
+/// be spent.
+pub fn hand_head(
+    state: &mut FrontState,
+    alloc: Global,
+    setting: &Setting<'_>,
+    next: (ConnId, FirstChoice),
+) -> Result<Head, NoMemory>
+    requires { HeadWaits state.old next.0 }
+    ensures c { IfOk result (λ x. x.c ≡ next.0) }
+    ensures turn { IfOk result (λ x. option_map (gives state.old next.0)
+        (front_admitted (front_env (front_setting_seen setting.entry.now) state.old next.0 0) (front_part state.old next.0) next.1) ≡ Some (state.new, x.turn)) }
+    ensures timers { IfOk result (λ x. x.timers ≡ changes next.0 (armed_of (front_part state.old next.0)) (armed_of (front_part state.new next.0))) }
+    ensures fits { IfOk result (λ x. IsFrontTurn x.turn) }
+    ensures quiet { IfOk result (λ x. x.turn.segments ≡ []) }
+{
+    let (c, choice) = next;
     let around = Around {
         serve: Env {
             place: Place::Front,
-            c: head,
+            c,
             files: setting.files,
             stream: setting.stream,
         },
         iss: Seq(0),
         time: setting.now,
     };
-    let was = armed_at(state, head);
-    let admitted = admit(state, alloc, &around, choice)?;
-    let others = changes(alloc, head, was, armed_at(state, head))?;
-    let all = joined(turn, admitted)?;
-    Ok(out_of(all, in_order(c, head, timers, others)?))
+    let was = armed_at(state, c);
+    let turn = admit(state, alloc, &around, choice)?;
+    let timers = changes(alloc, c, was, armed_at(state, c))?;
+    Ok(Head { c, turn, timers })
 }
 
-/// Two turns as one, in which the second queued no response.
-fn joined(turn: FrontTurn, behind: FrontTurn) -> Result<FrontTurn, NoMemory>
+/// Two turns as one, of which the first sent no segment, and which queued so many bytes of responses.
+pub fn joined(turn: FrontTurn, behind: FrontTurn, answered: u32) -> Result<FrontTurn, NoMemory>
     requires fits { IsFrontTurn turn }
     requires behind { IsFrontTurn behind }
     requires quiet { turn.segments ≡ [] }
-    ensures turn { IfOk result (λ all. all ≡ front_joined turn behind) }
+    requires answered { answered ≤ MAX_STREAM_BYTES }
+    ensures turn { IfOk result (λ all. all ≡ record (front_joined turn behind) { answered = answered }) }
     ensures fits { IfOk result IsFrontTurn }
 {
     let FrontTurn {
@@ -107,7 +144,7 @@ fn joined(turn: FrontTurn, behind: FrontTurn) -> Result<FrontTurn, NoMemory>
         mut segments,
         mut gave,
         mut messages,
-        answered,
+        answered: _,
     } = turn;
     let FrontTurn {
         notes: mut more_notes,
@@ -130,7 +167,7 @@ fn joined(turn: FrontTurn, behind: FrontTurn) -> Result<FrontTurn, NoMemory>
 }
 
 /// The records of the timers of two connections, in the order of their numbers.
-fn in_order(c: ConnId, head: ConnId, mut ours: Recs, mut theirs: Recs) -> Result<Recs, NoMemory>
+pub fn in_order(c: ConnId, head: ConnId, mut ours: Recs, mut theirs: Recs) -> Result<Recs, NoMemory>
     ensures { IfOk result (λ recs. recs ≡ in_order c head ours theirs) }
 {
     if head.number() < c.number() {

@@ -18,6 +18,7 @@ mod placing;
 mod reading;
 mod receiving;
 mod releasing;
+mod returning;
 mod seats;
 pub mod step;
 mod told;

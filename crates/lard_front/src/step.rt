@@ -4,7 +4,7 @@ ghost use Rattle.std.specs.Prelude.{◌≡◌, ◌≤◌, IfOk, OnOk};
 ghost use Rattle.lard_base.specs.declared.limits.TheConstants.{MAX_STREAM_BYTES};
 ghost use Rattle.lard_dispatch.specs.Sound.{AreBefore};
 ghost use Rattle.lard_rules.specs.FrontPlace.{front_step};
-ghost use Rattle.lard_rules.specs.FrontSound.{IsFrontSound, MayDrain};
+ghost use Rattle.lard_rules.specs.FrontSound.{IsFrontSound, MayClose};
 ghost use Rattle.lard_front.specs.Bounds.{IsFrontOut, IsShort};
 ghost use Rattle.lard_front.specs.Place.{front_setting_seen};
 
@@ -29,8 +29,8 @@ pub struct Setting<'a> {
 }
 
 /// Does the rule of what comes, on a state of `begin` or of steps that were done. No server set was changed after this
-/// time; a segment has at most 1,520 bytes; a node is closed while another one is open. Without memory the state is of no
-/// use any more but to be spent.
+/// time; a segment has at most 1,520 bytes; a node is closed, or gives a connection back or refuses one, while another one is
+/// open. Without memory the state is of no use any more but to be spent.
 pub fn step(
     state: &mut FrontState,
     alloc: Global,
@@ -41,7 +41,7 @@ pub fn step(
     requires clock { AreBefore setting.now.now.0 state.old.dispatch.books.sets }
     requires stream { setting.now.stream ≤ MAX_STREAM_BYTES }
     requires short { IsShort input }
-    requires drains { MayDrain state.old input }
+    requires closes { MayClose state.old input }
     ensures ok { IfOk result (λ out. (state.new, out) ≡ front_step (front_setting_seen setting.entry.now) state.old input) }
     ensures sound { OnOk result (IsFrontSound state.new) }
     ensures clock { OnOk result (AreBefore setting.entry.now.now.0 state.new.dispatch.books.sets) }
@@ -61,7 +61,7 @@ fn act(
     requires clock { AreBefore setting.now.now.0 state.old.dispatch.books.sets }
     requires stream { setting.now.stream ≤ MAX_STREAM_BYTES }
     requires short { IsShort input }
-    requires drains { MayDrain state.old input }
+    requires closes { MayClose state.old input }
     ensures out { IfOk result (λ out. (state.new, out) ≡ front_step (front_setting_seen setting.entry.now) state.old input) }
     ensures fits { IfOk result IsFrontOut }
 {

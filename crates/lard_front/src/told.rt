@@ -1,10 +1,11 @@
 //! The messages of nodes: each is read, and what it says is done.
 
-ghost use Rattle.std.specs.Prelude.{◌≡◌, IfOk};
+ghost use Rattle.std.specs.Prelude.{◌≡◌, ◌≤◌, IfOk, OnOk};
+ghost use Rattle.lard_base.specs.declared.limits.TheConstants.{MAX_STREAM_BYTES};
 ghost use Rattle.lard_dispatch.specs.Sound.{AreBefore};
 ghost use Rattle.lard_rules.specs.Front.{front_asked, front_taken};
 ghost use Rattle.lard_rules.specs.FrontPlace.{front_deed, front_env, front_part, front_told, message_comes};
-ghost use Rattle.lard_rules.specs.FrontSound.{IsAsk, IsFrontSound};
+ghost use Rattle.lard_rules.specs.FrontSound.{IsAsk, IsFrontSound, MayCloseBy, MayCloseOn};
 ghost use Rattle.lard_front.specs.Bounds.{IsFrontOut};
 ghost use Rattle.lard_front.specs.Place.{front_setting_seen};
 ghost use Rattle.lard_message.specs.declared.fault.MsgFault.TheVariants as fault_kind;
@@ -15,6 +16,7 @@ ghost use Rattle.lard_rules.specs.Outs.{nothing_done};
 use crate::asking::asked;
 use crate::joining::ended;
 use crate::passing::taken;
+use crate::returning::{given, refused};
 use crate::step::Setting;
 use crate::turns::{Around, armed_at, out_by};
 use lard_base::{ConnId, Epoch, NoMemory, NodeId, Place};
@@ -37,6 +39,8 @@ pub fn message_comes(
 ) -> Result<Out, NoMemory>
     requires sound { IsFrontSound state.old }
     requires clock { AreBefore setting.now.now.0 state.old.dispatch.books.sets }
+    requires stream { setting.now.stream ≤ MAX_STREAM_BYTES }
+    requires closes { MayCloseOn state.old from (decoded_message bytes.now) }
     ensures out { IfOk result (λ out. (state.new, out) ≡ message_comes (front_setting_seen setting.entry.now) state.old from (decoded_message bytes.now)) }
     ensures fits { IfOk result IsFrontOut }
 {
@@ -52,14 +56,22 @@ fn drops(alloc: Global, fault: MsgFault) -> Result<Out, NoMemory>
     ensures read { IfOk result (λ out. fault ≡ fault_kind.NoMemory → ⊥) }
     ensures fits { IfOk result IsFrontOut }
 {
+    was_read(fault)?;
+    Ok(nothing(alloc))
+}
+
+/// Bytes with this fault were read to it. `NoMemory` where memory ran out before.
+pub fn was_read(fault: MsgFault) -> Result<(), NoMemory>
+    ensures { OnOk result (fault ≡ fault_kind.NoMemory → ⊥) }
+{
     match fault {
         MsgFault::NoMemory => return Err(NoMemory),
-        MsgFault::Short => return Ok(nothing(alloc)),
-        MsgFault::Version => return Ok(nothing(alloc)),
-        MsgFault::Kind => return Ok(nothing(alloc)),
-        MsgFault::Length => return Ok(nothing(alloc)),
-        MsgFault::Trailing => return Ok(nothing(alloc)),
-        MsgFault::Field => return Ok(nothing(alloc)),
+        MsgFault::Short => return Ok(()),
+        MsgFault::Version => return Ok(()),
+        MsgFault::Kind => return Ok(()),
+        MsgFault::Length => return Ok(()),
+        MsgFault::Trailing => return Ok(()),
+        MsgFault::Field => return Ok(()),
     }
 }
 
@@ -73,7 +85,9 @@ fn told(
 ) -> Result<Out, NoMemory>
     requires sound { IsFrontSound state.old }
     requires clock { AreBefore setting.now.now.0 state.old.dispatch.books.sets }
+    requires stream { setting.now.stream ≤ MAX_STREAM_BYTES }
     requires table { IsOfTable message.body }
+    requires closes { MayCloseBy state.old from message.body }
     ensures out { IfOk result (λ out. (state.new, out) ≡ front_told (front_setting_seen setting.entry.now) state.old from message.c message.epoch.0 message.body) }
     ensures fits { IfOk result IsFrontOut }
 {
@@ -115,8 +129,8 @@ fn told(
         Body::Fetch { .. } => return Ok(nothing(alloc)),
         Body::Content { .. } => return Ok(nothing(alloc)),
         Body::EndedAck => return Ok(nothing(alloc)),
-        Body::Refused => return Ok(nothing(alloc)),
-        Body::Give(_) => return Ok(nothing(alloc)),
+        Body::Refused => return refused(state, alloc, setting, c, from, epoch),
+        Body::Give(parts) => return given(state, alloc, setting, c, from, epoch, &parts),
         Body::Given => return Ok(nothing(alloc)),
     }
 }

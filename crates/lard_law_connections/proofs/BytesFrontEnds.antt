@@ -1,7 +1,7 @@
 -- An Ask and the end of a connection at its node leave it in agreement.
 use Rattle.std.proofs.Common.{◌≡◌, ◌≤◌, ◌+◌, ◌==◌, ◌^◌, ℕ, Bool, false, true, List, [], ◌∷◌, ◌++◌, map, Option, Some, None, Ok, arith, refl, ap, ◌∙◌, sym, subst, inl, ⊎_elim, eqb-true, eq-eqb}
 use Rattle.std.specs.List.{fold, list_any}
-use Rattle.lard_law_view.specs.Prelude.{Ask, BackConn, BackRow, Conn, Final, Front, FrontConn, FrontDeed, FrontEnv, FrontGets, FrontPart, FrontRest, FrontRow, FrontRules, IsFrontEnv, Kept, LaterChoice, Message, Node, NodePart, Reason, Rec, Seen, Setting, SpellsMessage, Station, Stream, Talk, Verdict, Was, ack_sent, assigned_notes, assigns, bytes_served_in, decoded_message, ended_kept, front_does, front_ended_by, front_rest, front_rule, front_saying, is_away, is_reset_record, is_row_at, is_with, next_epoch, over_note, seen_step, served_in, serving, tag_sent, tale_at, tale_step, with_front}
+use Rattle.lard_law_view.specs.Prelude.{Ask, BackConn, BackRow, Conn, EndpointParts, Final, Front, FrontConn, FrontDeed, FrontEnv, FrontGets, FrontPart, FrontRest, FrontRow, FrontRules, IsConnNumber, IsFrontEnv, Kept, LaterChoice, Message, Node, NodePart, Reason, Rec, Seen, Setting, SpellsMessage, Station, Stream, Talk, Verdict, Was, ack_sent, assigned_notes, assigns, bytes_served_in, decoded_message, ended_kept, front_does, front_ended_by, front_rest, front_rule, front_saying, given_sent, is_away, is_reset_record, is_row_at, is_with, next_epoch, over_note, seen_step, served_in, serving, tag_sent, tale_at, tale_step, with_front}
 use Rattle.lard_law_connections.specs.BytesAgreement.{AwayAgrees, BackAgrees, EndedWithNumbers, IsEnding, IsFair, IsKept, IsOpen, IsTruthful, NodeAgrees, NodeTells, RowAgrees, SeatAgrees, StageAgrees}
 use Rattle.lard_law_connections.specs.BytesKeeping.{FrontSays, IsFrontTalk}
 use Rattle.lard_law_connections.proofs.BytesLaw.{Helps, IsTrueMove, StaysTruthful}
@@ -9,12 +9,15 @@ use Rattle.lard_law_connections.specs.BytesTurning.{IsNoteOf}
 use Rattle.lard_law_connections.proofs.BytesClientMoves.{has-fair, open-at}
 use Rattle.lard_law_connections.proofs.BytesFrontMessages.{past-undecided, taken-moves, where-opened}
 use Rattle.lard_law_connections.proofs.BytesFrontMoves.{GoesSo, all-say, at-home, by-segment, by-timer, drops-goes, heard-word, rule-agrees, says-goes, talk-of}
+use Rattle.lard_law_connections.proofs.BytesFronts.{CameBack}
 use Rattle.lard_law_connections.proofs.BytesMessages.{ends-read}
 use Rattle.lard_law_connections.proofs.BytesMoves.{idle-goes, move-goes}
+use Rattle.lard_law_connections.proofs.BytesReturns.{by-return}
 use Rattle.lard_law_connections.proofs.BytesTold.{bytes_of}
 use Rattle.lard_law_connections.specs.Places.{HasEnded, IsDecided, IsLeft, Owning, IsOver, IsPast, IsThere, OthersArePast, Sits, StageSits, owning}
 use Rattle.lard_law_connections.proofs.PlacesFrontMessages.{came-says}
 use Rattle.lard_law_connections.proofs.PlacesFrontRules.{decided-there, there-decided}
+use Rattle.lard_law_connections.proofs.PlacesTurns.{IsPlaced}
 use Rattle.lard_law_view.proofs.Rows.{tale_before}
 use Rattle.lard_rules.specs.Front.{Does, Drops, Says, message}
 use Rattle.lard_handoff_back.specs.declared.row.BackConn.TheVariants as back
@@ -83,6 +86,10 @@ module _ (k : Setting) (small : k.stream ≤ 2 ^ 30) (x : Conn) (s : Station) (t
 
   ack-says : (q : FrontPart) (n epoch : ℕ) → Each (FrontSays x.c q) (ack_sent env n epoch)
   ack-says q n epoch = subst (λ (c : ℕ). Each (FrontSays c q) (ack_sent env n epoch)) is.number ((n, epoch, body.EndedAck, refl, tt), tt)
+
+  given-says : (q : FrontPart) (n epoch : ℕ) (parts : EndpointParts) → Each (FrontSays x.c q) (given_sent env.serve.c n epoch (Some parts))
+  given-says q n epoch parts = subst (λ (c : ℕ). Each (FrontSays x.c q) (given_sent c n epoch (Some parts))) (sym is.number)
+      ((n, epoch, body.Given, refl, tt), tt)
 
   tag-says : (q : FrontPart) (n epoch number : ℕ) (nodes : List ℕ) → Each (FrontSays x.c q) (tag_sent env n epoch number nodes)
   tag-says q n epoch number nodes = subst (λ (c : ℕ). Each (FrontSays c q) (tag_sent env n epoch number nodes)) is.number ((n, epoch, body.Tag number nodes, refl, tt), tt)
@@ -179,11 +186,11 @@ module _ (k : Setting) (small : k.stream ≤ 2 ^ 30) (x : Conn) (s : Station) (t
 
   -- ---- whatever comes
 
-  module _ (talk : IsFrontTalk env l.w l.out l.vs) where
+  module _ (talk : IsFrontTalk env l.w l.out l.vs) (number : IsConnNumber x.c) (placed : IsPlaced x) where
     abbrev pub KeepsTrue : FrontDeed → Type 0
     KeepsTrue d = GoesSo k small x s there env is l pend o talk heads quiet d
 
-    pub by-rules : KeptByFront env p (FrontComes x env heads) (λ w t. Unit {0}) KeepsTrue
+    pub by-rules : KeptByFront env p (FrontComes x env heads) (CameBack env l.w l.out l.vs l.was_reset p) KeepsTrue
     by-rules = record {
       drops = λ keeps. drops-goes k small x s there l pend o heads (quiet Drops);
       hears = λ bytes sd comes.
@@ -203,6 +210,11 @@ module _ (k : Setting) (small : k.stream ≤ 2 ^ 30) (x : Conn) (s : Station) (t
       ends = λ m epoch last comes row found away keeps help. let t = comes.told in
           ends-moves row m epoch last (end-stage m epoch last.reason last.snd.0 last.rcv.0 comes.count t.bytes t.spells t.was row row.stage found refl away
           (came-says x (Node m) Front epoch (body.Ended last.reason last.snd.0 last.rcv.0 comes.count) t.bytes help.placed.letters t.was t.spells) help) help;
+      gives_again = λ n epoch parts comes row found past keeps.
+          says-goes k small x s there l pend o heads (front_saying (given_sent env.serve.c n epoch (Some parts)))
+          (quiet (Says (front_saying (given_sent env.serve.c n epoch (Some parts))))) refl tt
+          (all-say l x.c x.part (given_sent env.serve.c n epoch (Some parts)) (given-says p n epoch parts));
+      returns = by-return k small x s there env is l pend o talk number placed heads quiet;
       admits = λ choice made met row b path at target. at-home k small x s there env is l pend o talk heads quiet row (stage.Waiting b) at tt tt
           (hands_off env row (serving b (front_rest p.rest).count []) path choice []) tt;
     }
@@ -220,14 +232,15 @@ module _ (k : Setting) (small : k.stream ≤ 2 ^ 30) where
   opened-stays : (x : Conn) (s : Station) (env : FrontEnv) (heads : List Seen) (g : FrontGets) → x.part.station ≡ Some s → env.iss ≡ s.iss
       → IsFrontEnv k x.c env → FrontComes x env heads g → IsTruthful k.files x
       → Helps x (front_does x heads (front_rule env x.part.front g)) → IsTrueMove k.files x (front_does x heads (front_rule env x.part.front g))
-  opened-stays x s env heads g there iss is comes h =
+  opened-stays x s env heads g there iss is comes h help =
       let o = open-at k.files x s there h in
       let talk = talk-of k small x env is s h.talk h.pend o iss in
       let quiet = heads-quiet x heads (of-front x (λ (ss : List Seen). bytes_of (fold (seen_step (tale_step x.c)) (tale_at x) ss) ≡ bytes_of (tale_at x))
       (λ from bytes. refl) refl refl env heads g comes) in
-      front-keeps env x.part.front (FrontComes x env heads) (λ w t. Unit {0}) (KeepsTrue k small x s there h.talk h.pend o heads quiet env is talk)
-      (by-rules k small x s there h.talk h.pend o heads quiet env is talk) g (admission x env heads g comes) comes
-      (rule-agrees k small x s there env is h.talk h.pend o talk heads g comes)
+      front-keeps env x.part.front (FrontComes x env heads) (CameBack env h.talk.w h.talk.out h.talk.vs h.talk.was_reset x.part.front)
+      (KeepsTrue k small x s there h.talk h.pend o heads quiet env is talk help.number help.placed)
+      (by-rules k small x s there h.talk h.pend o heads quiet env is talk help.number help.placed) g (admission x env heads g comes) comes
+      (rule-agrees k small x s there env is h.talk h.pend o talk heads g comes) help
 
   pub fronts : FrontRules k (StaysTruthful k)
   fronts = each-front k (StaysTruthful k) (λ x env heads g is comes help h.

@@ -6,7 +6,7 @@ use Rattle.lard_law_connections.specs.BytesAgreement.{FrontHolds, FrontTells, Is
 use Rattle.lard_law_connections.specs.BytesKeeping.{FrontPartAgrees, FrontDeedKeeps, FrontRowAgrees, FrontSays, FrontStageAgrees, FrontTurned, IsFrontTalk, SaysOfKind}
 use Rattle.lard_law_connections.proofs.BytesLaw.{Helps, IsTrueMove}
 use Rattle.lard_law_connections.proofs.BytesClientMoves.{has-fair}
-use Rattle.lard_law_connections.proofs.BytesFronts.{IsOurs, IsTrueWord, RowIsOurs, rule-keeps}
+use Rattle.lard_law_connections.proofs.BytesFronts.{CameBack, IsOurs, IsTrueWord, RowIsOurs, rule-keeps}
 use Rattle.lard_law_connections.proofs.BytesMessages.{forwards-read}
 use Rattle.lard_law_connections.proofs.BytesMoves.{idle-goes, move-goes, replies-fair, talk_after}
 use Rattle.lard_law_connections.proofs.BytesTold.{bytes_of}
@@ -28,7 +28,7 @@ use Rattle.lard_dispatch.specs.declared.dispatch.First.TheVariants as first
 -- ---- messages of the front end
 
 tells-kind : (k : Talk) (c : ℕ) (p : Part) (n e : ℕ) (bytes : List ℕ) (b : Body) → SaysOfKind p.front bytes (kind_of b) → FrontTells k c p n e bytes b
-tells-kind k c p n e bytes (body.Offer parts) h = inr h
+tells-kind k c p n e bytes (body.Offer parts) h = inr (inr h)
 tells-kind k c p n e bytes (body.Forward segment) h = absurd h
 tells-kind k c p n e bytes _ h = tt
 
@@ -100,7 +100,7 @@ module _ (w out : Stream) (vs pend : List Verdict) (r : Bool) (c : ℕ) (p : Par
 
 module _ (k : Setting) (small : k.stream ≤ 2 ^ 30) (x : Conn) (s : Station) (there : x.part.station ≡ Some s) (l : Talk) (pend : List Verdict) (o : IsOpen k.files x l pend s) where
   -- what goes out where nothing is kept anew
-  abbrev MessagesFair : FrontDeed → Type 0
+  abbrev pub MessagesFair : FrontDeed → Type 0
   MessagesFair Drops = Unit {0}
   MessagesFair (Says turn) = Each (IsFair l x.c x.part) (map (letter Front) turn.messages)
   MessagesFair (Does did) = Unit {0}
@@ -125,14 +125,24 @@ module _ (k : Setting) (small : k.stream ≤ 2 ^ 30) (x : Conn) (s : Station) (t
         letters = Each-append (IsFair l x.c x.part) (map (letter Front) turn.segments) (map (letter Front) turn.messages) (replies-fair l x.c x.part Front (inl refl) turn.segments replies) fair;
       }))
 
-  does-goes : (heads : List Seen) (did : Did) → bytes_of (tale_before x (front_does x heads (Does did))) ≡ bytes_of (tale_at x) → ((n e : ℕ) → IsOffered n e x.part.front.row → ⊥) → ArePast (front_epoch x.part.front.row) x.part.nodes
+  -- its Offer is told on behind it
+  abbrev pub OffersStill : ℕ → ℕ → FrontDeed → Type 0
+  OffersStill n e (Does did) = IsOffered n e x.part.front.row × IsOffered n e did.part.row
+  OffersStill n e _ = ⊥
+
+  unoffered : RowIsOurs x.part.front.row → (d : FrontDeed) (n e : ℕ) → OffersStill n e d → ⊥
+  unoffered mine (Does did) n e still = ours-unoffered x.part.front.row mine n e still.0
+  unoffered mine _ n e still = still
+
+  does-goes : (heads : List Seen) (did : Did) → bytes_of (tale_before x (front_does x heads (Does did))) ≡ bytes_of (tale_at x)
+      → ((n e : ℕ) → OffersStill n e (Does did) → ⊥) → ArePast (front_epoch x.part.front.row) x.part.nodes
       → FrontTurned k.files x.c l.w l.out l.vs l.was_reset did.part did.turn → Helps x (front_does x heads (Does did)) → IsTrueMove k.files x (front_does x heads (Does did))
-  does-goes heads did quiet unoffered past t help =
+  does-goes heads did quiet anew past t help =
       let v : Move = front_does x heads (Does did) in
       let r : Bool = l.was_reset || list_any is_reset_record did.turn.notes in
       let after : Talk = talk_after k.files x s there l pend o v t.out_after t.vs_after in
       move-goes k.files x s there l pend o v help
-      (record { heads = quiet; station = refl; offers = λ n e a b. absurd (unoffered n e a); ends = λ n e over. inl refl })
+      (record { heads = quiet; station = refl; offers = λ n e a b. absurd (anew n e (a, b)); ends = λ n e over. inl refl })
       (record {
         out_after = t.out_after;
         vs_after = t.vs_after;
@@ -152,11 +162,12 @@ module _ (k : Setting) (small : k.stream ≤ 2 ^ 30) (x : Conn) (s : Station) (t
       (record { heads = quiet; station = refl; offers = λ n e a b. refl; ends = λ n e over. inl refl })
       (idle-goes k.files x s there l pend o (front_does x heads Drops) (record { each = tt; served = refl; size = refl; reset = refl; seat = o.seat; ways = o.ways; sent = tt; letters = tt }))
 
-  deed-goes : (heads : List Seen) (d : FrontDeed) → IsQuiet heads → ((n e : ℕ) → IsOffered n e x.part.front.row → ⊥) → ArePast (front_epoch x.part.front.row) x.part.nodes → MessagesFair d
+  pub deed-goes : (heads : List Seen) (d : FrontDeed) → IsQuiet heads → ((n e : ℕ) → OffersStill n e d → ⊥)
+      → ArePast (front_epoch x.part.front.row) x.part.nodes → MessagesFair d
       → FrontDeedKeeps k.files x.c l.w l.out l.vs l.was_reset d → Helps x (front_does x heads d) → IsTrueMove k.files x (front_does x heads d)
-  deed-goes heads Drops quiet unoffered past fair t help = drops-goes heads (quiet Drops) help
-  deed-goes heads (Says turn) quiet unoffered past fair t help = says-goes heads turn (quiet (Says turn)) t.0 t.1 fair help
-  deed-goes heads (Does did) quiet unoffered past fair t help = does-goes heads did (quiet (Does did)) unoffered past t help
+  deed-goes heads Drops quiet anew past fair t help = drops-goes heads (quiet Drops) help
+  deed-goes heads (Says turn) quiet anew past fair t help = says-goes heads turn (quiet (Says turn)) t.0 t.1 fair help
+  deed-goes heads (Does did) quiet anew past fair t help = does-goes heads did (quiet (Does did)) anew past t help
 
 -- ---- a segment, and the timers
 
@@ -188,7 +199,7 @@ module _ (k : Setting) (small : k.stream ≤ 2 ^ 30) (x : Conn) (s : Station) (t
   home-past own row (stage.Waiting b) at before sits = let h : StageSits row.epoch.0 own x.part.nodes (stage.Waiting b) = subst (StageSits row.epoch.0 own x.part.nodes) at sits.0 in h.1.1
   home-past own row _ at before sits = absurd before
 
-  past-found : (o : Option FrontRow) → x.part.front.row ≡ o → ArePast (front_epoch o) x.part.nodes → ArePast (front_epoch x.part.front.row) x.part.nodes
+  pub past-found : (o : Option FrontRow) → x.part.front.row ≡ o → ArePast (front_epoch o) x.part.nodes → ArePast (front_epoch x.part.front.row) x.part.nodes
   past-found o found past = subst (λ (q : Option FrontRow). ArePast (front_epoch q) x.part.nodes) (sym found) past
 
   module _ (talk : IsFrontTalk env l.w l.out l.vs) (heads : List Seen) (quiet : IsQuiet k small x s there l pend o heads) where
@@ -207,7 +218,7 @@ module _ (k : Setting) (small : k.stream ≤ 2 ^ 30) (x : Conn) (s : Station) (t
 
     pub at-home : (row : FrontRow) (st : FrontConn) → IsInStage p row st → IsBefore st → IsOurs st → (d : FrontDeed) → MessagesFair k small x s there l pend o d → GoesSo d
     at-home row st at before mine d fair keeps help =
-        deed-goes k small x s there l pend o heads d quiet (ours-unoffered p.row (ours row st at mine))
+        deed-goes k small x s there l pend o heads d quiet (unoffered k small x s there l pend o (ours row st at mine) d)
         (past-found (Some row) at.0 (home-past (owning (tale_at x)) row st at.1 before (subst (Sits (owning (tale_at x)) x.part.nodes) at.0 help.placed.sits))) fair (keeps (ours row st at mine)) help
 
     -- nobody has it yet
@@ -215,7 +226,8 @@ module _ (k : Setting) (small : k.stream ≤ 2 ^ 30) (x : Conn) (s : Station) (t
     begins-here sd none keeps help =
         let mine : RowIsOurs p.row = subst RowIsOurs (sym none) tt in
         let sits : Sits (owning (tale_at x)) x.part.nodes None = subst (Sits (owning (tale_at x)) x.part.nodes) none help.placed.sits in
-        deed-goes k small x s there l pend o heads (front_begun env p sd) quiet (ours-unoffered p.row mine) (past-found None none sits.1) tt (keeps mine) help
+        deed-goes k small x s there l pend o heads (front_begun env p sd) quiet (unoffered k small x s there l pend o mine (front_begun env p sd))
+        (past-found None none sits.1) tt (keeps mine) help
 
     module _ (bytes : List ℕ) (sd : Said) (is_spelled : bytes ≡ spelled x.c ToCluster sd) (word : IsWord l.w sd) where
       forwards : (n : ℕ) (d : Epoch) → GoesSo (forwarded env n d bytes)
@@ -228,11 +240,11 @@ module _ (k : Setting) (small : k.stream ≤ 2 ^ 30) (x : Conn) (s : Station) (t
           let turn : FrontTurn = turn_here (tombstone env.serve (last_words last.reason last sd)) in
           says-goes k small x s there l pend o heads turn (quiet (Says turn)) t.0 t.1 tt help
 
-      pub by-segment : KeptBySegment env p bytes sd (λ w o. Unit {0}) GoesSo
+      pub by-segment : KeptBySegment env p bytes sd (CameBack env l.w l.out l.vs l.was_reset p) GoesSo
       by-segment = record {
         drops = drops;
         begins = λ none plain. begins-here sd none;
-        reads = λ row b at. tt;
+        reads = λ row b at away. absurd (away (ours row (stage.Held b) at tt));
         holds = λ row b w at r. at-home row (stage.Held b) at tt tt (holds p row (front_rest p.rest) (serving_settled env.serve w)) tt;
         hands = λ row b w path choice at r is. at-home row (stage.Held b) at tt tt (Does (placed env p row (front_rest p.rest) w path (first.Go choice))) tt;
         waits = λ row b w path at r is. at-home row (stage.Held b) at tt tt (Does (placed env p row (front_rest p.rest) w path first.Waits)) tt;

@@ -1,22 +1,24 @@
 -- The rules of the front end keep the agreement of a connection.
-use Rattle.std.proofs.Common.{◌≡◌, ◌<◌, ◌+◌, ◌^◌, ◌||◌, ◌&&◌, ℕ, Bool, true, false, not, List, [], ◌∷◌, ◌++◌, map, length, Option, Some, None, Ok, IfSome, arith, refl, ap, ◌∙◌, sym, subst, inr}
+use Rattle.std.proofs.Common.{◌≡◌, ◌<◌, ◌+◌, ◌^◌, ◌||◌, ◌&&◌, ℕ, Bool, true, false, not, List, [], ◌∷◌, ◌++◌, map, length, Option, Some, None, Ok, IfSome, arith, refl, ap, ◌∙◌, sym, subst, inr, ⊎_elim}
 use Rattle.std.specs.List.{concat, list_any}
 use Rattle.std.proofs.lemmas.Bool.{and_parts, cond_both}
-use Rattle.lard_law_view.specs.Prelude.{ControlBlock, Ending, Final, FirstChoice, FrontConn, FrontDeed, FrontEnv, FrontGets, FrontHears, FrontPart, FrontRest, FrontRow, FrontTurn, IsReply, IsWord, MayMove, Reading, Reason, Rec, Said, Serves, Service, Stream, Turn, Verdict, answer, front_admitted, front_begun, front_ended, front_fired, front_hears, front_reads, front_rest, front_rests, front_rule, handed_off, holds, is_away, is_reset_record, is_row_at, is_telling, is_with, last_ack, last_words, listening, may_freeze, next_epoch, parts_of, refusal, serving, serving_settled, spoken, tombstone, turn_here, waits_on}
+use Rattle.lard_law_view.specs.Prelude.{ControlBlock, Did, Ending, EndpointParts, Epoch, Final, FirstChoice, FrontConn, FrontDeed, FrontEnv, FrontGets, FrontHears, FrontPart, FrontRest, FrontRow, FrontTurn, IsReply, IsWord, MayMove, Place, Reading, Reason, Rec, Said, Serves, Service, Stream, Turn, Verdict, answer, back_notes, back_part, back_rest, front_admitted, front_begun, front_ended, front_fired, front_hears, front_reads, front_rest, front_rests, front_rule, handed_off, holds, is_away, is_reset_record, is_row_at, is_telling, is_with, last_ack, last_words, listening, may_freeze, next_epoch, parts_of, placed, refusal, returned_row, serving, serving_settled, spoken, stands_first, tombstone, turn_here, waits_on}
 use Rattle.lard_base.specs.declared.place.Place.TheVariants as place
 use Rattle.lard_base.specs.declared.place.Reason.TheVariants as reason
 use Rattle.lard_law_connections.specs.BytesAgreement.{EndAgreesPending, EndedWithNumbers, FrontHolds, FrontWaits, HasReadPending, HoldsItPending}
-use Rattle.lard_law_connections.specs.BytesKeeping.{AdmissionsKeep, AdmittedKeeps, EndsKeep, FrontPartAgrees, FrontDeedKeeps, FrontHearsTruth, FrontRowAgrees, FrontStageAgrees, FrontTimerKeeps, FrontTurned, IsFrontTalk}
+use Rattle.lard_law_connections.specs.BytesKeeping.{AdmissionsKeep, AdmittedKeeps, EndsKeep, FrontPartAgrees, FrontDeedKeeps, FrontHearsTruth, FrontRowAgrees, FrontSays, FrontStageAgrees, FrontTimerKeeps, FrontTurned, IsFrontTalk}
 use Rattle.lard_law_connections.specs.BytesTurning.{EndTurned, IsReading}
 use Rattle.lard_law_connections.proofs.BytesEnding.{settled-ends, spoken-ends}
 use Rattle.lard_law_connections.proofs.BytesFrontReading.{GoesOver, reads-so}
-use Rattle.lard_law_connections.proofs.BytesHolding.{begins-so, fired-ends, heard-so, same-so}
+use Rattle.lard_law_connections.proofs.BytesHolding.{adopted-serves, adopted-so, begins-so, fired-ends, heard-so, same-so}
 use Rattle.lard_law_connections.proofs.BytesServing.{So, counts-mute, noted-serves}
 use Rattle.lard_endpoint.proofs.Adoption.{frozen_stands}
 use Rattle.lard_rules.specs.Front.{Says}
 use Rattle.lard_rules.proofs.FrontBlocks.{EndsIdle, EndsServing, idle-of, segment-idle, segment-serves, settled-serves, spoken-idle, spoken-serves, timer-idle, timer-serves}
 use Rattle.lard_rules.proofs.FrontTurns.{reads-stop}
+use Rattle.lard_dispatch.specs.declared.dispatch.First.TheVariants as first
 use Rattle.lard_handoff_front.specs.declared.row.FrontConn.TheVariants as stage
+use Rattle.lard_history.proofs.Each.{Each, Each-append}
 use Rattle.lard_journal.specs.declared.rec.Rec.TheVariants as rec
 use Rattle.lard_law_view.proofs.EndpointStreams.{IsBetween, between-begun, between-sound}
 use Rattle.lard_law_view.proofs.Notes.{or-false}
@@ -24,7 +26,7 @@ use Rattle.lard_message.specs.declared.message.Body.TheVariants as body
 use Rattle.lard_rules.specs.declared.places.Ending.TheVariants as ending
 use Rattle.lard_law_view.proofs.Growth.{goes_on-same}
 use Rattle.lard_law_view.proofs.Pieces.{bare-true}
-use Rattle.lard_rules.proofs.FrontCases.{IsAsGiven, IsInStage, KeptByFront, KeptBySegment, KeptByTimer, front-keeps, of-stage, fired_before, fired_service, heard_reading, heard_service, segment-keeps, ended-keeps, admitted-keeps}
+use Rattle.lard_rules.proofs.FrontCases.{IsAsGiven, IsAwayWith, IsInStage, KeptByFront, KeptByReturn, KeptBySegment, KeptByTimer, back_reading, back_service, front-keeps, of-stage, fired_before, fired_service, heard_reading, heard_service, segment-keeps, ended-keeps, admitted-keeps}
 use Rattle.lard_rules.proofs.FrontCases as cases
 
 -- ---- where the connection is
@@ -52,6 +54,11 @@ ours-alone n epoch (Some row) ours at = go row.stage ours at where
   go (stage.Offering m d) ours at = ours
   go (stage.Moved m d) ours at = ours
   go _ ours at = let no : false ≡ true = at in cc
+
+-- a connection that is with a node is not the front end's
+pub away-not : (p : FrontPart) (row : FrontRow) (n : ℕ) (e : Epoch) → IsAwayWith p row n e → RowIsOurs p.row → ⊥
+away-not p row n e away ours = ⊎_elim (λ (at : IsInStage p row (stage.Offering n e)). of-stage RowIsOurs p row (stage.Offering n e) at ours)
+    (λ (at : IsInStage p row (stage.Moved n e)). of-stage RowIsOurs p row (stage.Moved n e) at ours) away
 
 -- ---- what a turn keeps
 
@@ -129,15 +136,45 @@ module _ (env : FrontEnv) (w out : Stream) (vs : List Verdict) (was_reset : Bool
         waits-turn p row (record rest { target = Some path }) (spoken env.serve v []) (spoken-ends env.serve w out vs was_reset v [] more [] (subst (λ (o : Option ℕ). IsReading w more.vs_now [] v.block v.notes o) none more.reading) tt)
         (spoken-serves env.serve v [] serves) (spoken-idle env.serve v [] (idle-of s.block may serves.sent))
 
-  -- ---- segments
+  -- messages first
+  first-turn : (said : List (Place × List ℕ)) → ((q : FrontPart) → Each (FrontSays env.serve.c q) said) → (part : FrontPart) (turn : FrontTurn)
+      → Turns part turn → Turns part (stands_first [] said turn)
+  first-turn said speaks part turn h = record {
+    out_after = h.out_after;
+    vs_after = h.vs_after;
+    longer = h.longer;
+    says = h.says;
+    agrees = h.agrees;
+    noted = h.noted;
+    sent = h.sent;
+    said = Each-append (FrontSays env.serve.c part) said turn.messages (speaks part) h.said;
+  }
+
+  -- ---- what is read
+
+  -- what was read agrees, and what is to be placed may move
+  abbrev pub Came : Service → Option (List ℕ) → Type 0
+  Came v target = So env.serve w out vs v [] × GoesOver target v × Serves v.count v.block.recv v.block.send × MayMove v.block target
+
+  -- so it is of a connection that was not the front end's
+  abbrev pub CameBack : FrontPart → Service → Option (List ℕ) → Type 0
+  CameBack p v target = (RowIsOurs p.row → ⊥) → Came v target
 
   module _ (talk : IsFrontTalk env w out vs) (p : FrontPart) where
-    heard-came : (row : FrontRow) (b : ControlBlock) (s : Said) → IsWord w s → FrontHolds w out vs [] b (front_rest p.rest).count → let x : Reading = front_reads env.serve (heard_reading p b s) in
-        So env.serve w out vs x.service [] × GoesOver x.target x.service × Serves x.service.count x.service.block.recv x.service.block.send × MayMove x.service.block x.target
-    heard-came row b s word h =
-        let so = reads-so env.serve w out vs talk.most (heard_service p b s) (heard-so env.serve w out vs talk.says [] b (front_rest p.rest).count h.holds talk.stream s word) in
-        let stop = reads-stop env.serve (heard_service p b s) (segment-serves (front_rest p.rest).count b s h.serves) in
-        (so.0, so.1, stop.0, stop.1)
+    read-came : (v : Service) → So env.serve w out vs v [] → Serves v.count v.block.recv v.block.send
+        → let x : Reading = front_reads env.serve (record { service = v; target = None }) in Came x.service x.target
+    read-came v so serves =
+        let read = reads-so env.serve w out vs talk.most v so in
+        let stop = reads-stop env.serve v serves in
+        (read.0, read.1, stop.0, stop.1)
+
+    -- ---- segments
+
+    heard-came : (row : FrontRow) (b : ControlBlock) (s : Said) → IsWord w s → FrontHolds w out vs [] b (front_rest p.rest).count
+        → let x : Reading = front_reads env.serve (heard_reading p b s) in Came x.service x.target
+    heard-came row b s word h = read-came (heard_service p b s)
+        (heard-so env.serve w out vs talk.says [] b (front_rest p.rest).count h.holds talk.stream s word)
+        (segment-serves (front_rest p.rest).count b s h.serves)
 
     waited-keep : (row : FrontRow) (b : ControlBlock) (s : Said) → IsWord w s → FrontWaits w out vs [] b (front_rest p.rest).count
         → Keeps (waits_on env p row (front_rest p.rest) (spoken env.serve (heard_service p b s) []))
@@ -195,15 +232,44 @@ module _ (env : FrontEnv) (w out : Stream) (vs : List Verdict) (was_reset : Bool
     tombstone-keeps None h = (refl, tt)
     tombstone-keeps (Some s) h = (refl, (refl, (s, refl, h), tt))
 
+    -- ---- a connection that comes back
+
+    -- it goes on from the parts of an endpoint that was frozen, behind these messages
+    module _ (row : FrontRow) (b : ControlBlock) (count : ℕ) (h : FrontHolds w out vs [] b count) (frozen : may_freeze b ≡ true)
+        (parts : EndpointParts) (same : parts ≡ parts_of b count) where
+      back-came : let x : Reading = front_reads env.serve (back_reading env row parts) in Came x.service x.target
+      back-came = subst (λ (q : EndpointParts). let x : Reading = front_reads env.serve (back_reading env row q) in Came x.service x.target) (sym same)
+          (read-came (back_service env row (parts_of b count))
+          (adopted-so env.serve w out vs talk.says [] b count h.holds frozen (back_notes env.serve.c row)
+          (record {
+            each = (tt, (tt, tt));
+            served = omega arith;
+            size = omega arith;
+            unless_ended = inr refl;
+            serve = λ t told. ((λ J e. tt), ((λ J e. tt), tt));
+          }))
+          (adopted-serves env.serve w out vs talk.says [] b count h.holds frozen h.serves))
+
+      pub by-return : (said : List (Place × List ℕ)) → ((q : FrontPart) → Each (FrontSays env.serve.c q) said) → KeptByReturn env p said row parts Came Keeps
+      by-return said speaks =
+          let q : FrontPart = back_part p row parts in
+          let r : FrontRow = returned_row parts row in
+          record {
+            reads = back-came;
+            holds = λ v came. let given : Ending × Turn = serving_settled env.serve v in
+                first-turn said speaks (front_rests q r (back_rest parts) stage.Held given.0) (turn_here given.1)
+                (holds-keep q r (back_rest parts) given (settled-ends env.serve w out vs was_reset v [] came.0) (settled-serves env.serve v came.2));
+            hands = λ v path choice came is. let given = handed_off env r v path choice in
+                first-turn said speaks given.0 given.1 (handed-turn v came.0 came.1 came.2 came.3 r path choice);
+            waits = λ v path came is. let did : Did = placed env q r (back_rest parts) v path first.Waits in
+                first-turn said speaks did.part did.turn (waiting-turn v came.0 came.1 came.2 came.3 q r (back_rest parts) path);
+          }
+
     -- ---- where it is
 
     module _ (h : FrontPartAgrees w out vs was_reset env.serve.c p) where
       agrees-at : (row : FrontRow) (st : FrontConn) → IsInStage p row st → FrontStageAgrees w out vs was_reset env.serve.c row.epoch.0 p st
       agrees-at row st at = of-stage (FrontRowAgrees w out vs was_reset env.serve.c p) p row st at h
-
-      -- what was read agrees, and what is to be placed may move
-      abbrev Came : Service → Option (List ℕ) → Type 0
-      Came v target = So env.serve w out vs v [] × GoesOver target v × Serves v.count v.block.recv v.block.send × MayMove v.block target
 
       by-segment : (bytes : List ℕ) (s : Said) → IsWord w s → KeptBySegment env p bytes s Came Keeps
       by-segment bytes s word = record {
@@ -260,6 +326,8 @@ module _ (env : FrontEnv) (w out : Stream) (vs : List Verdict) (was_reset : Bool
           assigns_next = λ n epoch ask m rest found there next. absurd (ours-alone n epoch p.row ours there);
           ends_again = λ n epoch last m row found away again. (refl, tt);
           ends = λ n epoch last m row found away. absurd (ours-here epoch row.stage (subst RowIsOurs found ours) away);
+          gives_again = λ n epoch parts m row found past. (refl, tt);
+          returns = λ n epoch given m row parts back. absurd (away-not p row n back.from back.at ours);
           admits = λ choice made met row b path at target. admits-keep choice row b path at;
         }
 

@@ -1,12 +1,13 @@
 -- What is read of a message between places is what was said: of an Offer, a Forward and an Ended.
-use Rattle.std.proofs.Common.{◌≡◌, ◌≤◌, ◌<◌, ◌-◌, ◌^◌, ℕ, List, [], ◌∷◌, ◌++◌, length, Some, Result, Ok, arith, ap, ◌∙◌, sym, subst}
+use Rattle.std.proofs.Common.{◌≡◌, ◌≤◌, ◌<◌, ◌-◌, ◌^◌, ℕ, List, [], ◌∷◌, ◌++◌, length, Some, None, Result, Ok, Err, arith, refl, ap, ◌∙◌, sym, subst}
 use Rattle.std.specs.Int.{to_be_bytes, w32}
-use Rattle.lard_law_view.specs.Prelude.{Body, EndpointParts, IsMessage, Message, MsgFault, Reason, body_bytes, ended_body_at, number_at, parts_of, reason_at, reason_byte}
-use Rattle.lard_law_connections.specs.BytesAgreement.{EndedWithNumbers}
+use Rattle.lard_law_view.specs.Prelude.{Body, EndpointParts, IsConnNumber, IsMessage, IsStream, Kept, Message, MsgFault, Reason, Stream, Verdict, body_bytes, decoded_message, ended_body_at, number_at, parts_in, parts_kept, parts_of, parts_read, reason_at, reason_byte}
+use Rattle.lard_law_connections.specs.BytesAgreement.{EndedWithNumbers, IsOffering}
 use Rattle.lard_law_connections.specs.BytesKeeping.{EndsAreRead, ForwardsAreRead, OffersAreRead}
 use Rattle.lard_law_connections.proofs.PlacesHeads.{spelled-body}
 use Rattle.lard_endpoint.proofs.Adoption.{parts-valid}
 use Rattle.lard_message.specs.declared.message.Body.TheVariants as body
+use Rattle.lard_rules.specs.Front.{message}
 use Rattle.lard_message.proofs.Fields.{bind_then, number_again, reason_again, some_same, wide32}
 use Rattle.lard_message.proofs.Whole.{again}
 
@@ -38,6 +39,22 @@ offers-read c e w out vs pend b count number small is h frozen m parts decodes o
     let one : x ≡ m = ok-same x m same in
     let bodies : body.Offer (parts_of b count) ≡ body.Offer parts = ap (λ (y : Message). y.body) one ∙ offer in
     sym (ap (offer_parts (parts_of b count)) bodies)
+
+-- So it is of the Offer that is kept, where that is read.
+offer-of : (parts : EndpointParts) (b : Body) → parts_in b ≡ Some parts → b ≡ body.Offer parts
+offer-of parts (body.Offer q) is = ap (λ (r : EndpointParts). body.Offer r) (some_same q parts is)
+offer-of parts _ is = let no : None ≡ Some parts = is in absurd cc
+
+pub kept-read : (c n e : ℕ) (w out : Stream) (vs pend : List Verdict) (kept : List Kept) (h : IsOffering w out vs pend c n e kept)
+    → IsConnNumber c → e < 2 ^ 16 → IsStream w → (parts : EndpointParts) → parts_kept kept ≡ Some parts → parts ≡ parts_of h.block h.count
+kept-read c n e w out vs pend kept h number small is parts read =
+    go (decoded_message bytes) refl (sym (ap parts_kept h.kept_is) ∙ read) where
+      bytes : List ℕ
+      bytes = message c e (body.Offer (parts_of h.block h.count))
+
+      go : (r : Result Message MsgFault) → decoded_message bytes ≡ r → parts_read r ≡ Some parts → parts ≡ parts_of h.block h.count
+      go (Err fault) d none = let no : None ≡ Some parts = none in absurd cc
+      go (Ok m) d some = offers-read c e w out vs pend h.block h.count number small is h.holds h.frozen m parts d (offer-of parts m.body some)
 
 -- ---- a Forward
 

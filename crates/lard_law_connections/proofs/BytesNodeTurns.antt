@@ -1,6 +1,6 @@
 -- The rules of a node leave a connection in agreement.
 use Rattle.lard_handoff_front.specs.declared.row.FrontConn.TheVariants as stage
-use Rattle.lard_law_connections.proofs.PlacesFrontMessages.{came-says}
+use Rattle.lard_law_connections.proofs.PlacesFrontMessages.{offer-says}
 use Rattle.lard_law_connections.proofs.BytesMessages.{offers-read}
 use Rattle.lard_law_view.specs.Prelude.{Adopt, BackRow, Conn, ControlBlock, EndpointParts, Epoch, FilesAt, Front, FrontConn, FrontRow, IsNodeEnv, IsStream, IsWord, Kept, Node, NodeDeed, NodeEnv, NodePart, Place, Rec, Said, SaysAnswers, Seen, Setting, SpellsMessage, Station, Stay, Talk, Verdict, Was, again_sent, back_endpoint, both_of, come_by, decoded_message, epoch_in, here, letter, named_records, node_content, node_does, node_fired_by, node_forwarded, node_heard_by, node_offered, node_read, node_read_by, node_tagged, node_timer, offer_answer, offered_by, parts_of, reads_first, tagged_by, taken_sent, tale_at}
 use Rattle.lard_rules.specs.Front.{message}
@@ -17,6 +17,7 @@ use Rattle.lard_law_connections.proofs.BytesNext.{named-tells}
 use Rattle.lard_law_connections.proofs.BytesNodeMoves.{HasIt, IsAt, Noted, again-fair, all-node, does-goes, has-it, known, stands-goes}
 use Rattle.lard_law_connections.proofs.BytesStays.{contents-keep, node-hears, offers-keep, reads-keep, tags-keep, timer-keeps}
 use Rattle.lard_law_connections.proofs.BytesTold.{bytes_of, named-each, named-resets, named-served, named-size}
+use Rattle.lard_law_connections.proofs.BytesFair.{told-kept}
 use Rattle.lard_law_connections.specs.Places.{HasEnded, IsDecided, IsOffered, IsOver, IsPast, Offers, Sits, StageSits, owning}
 use Rattle.lard_law_connections.proofs.PlacesNodeRules.{new-below, not-decided}
 use Rattle.lard_law_connections.proofs.PlacesTurns.{IsPlaced, early-at}
@@ -150,7 +151,7 @@ module _ (k : Setting) (small : k.stream ≤ 2 ^ 30) (x : Conn) (s : Station) (t
   -- ---- an Offer
 
   module _ (heads : List Seen) (quiet : IsQuiet heads) (parts : EndpointParts) (bytes : List ℕ) (spells : SpellsMessage x.c epoch (body.Offer parts) bytes) (was : Was x Front (Node n) bytes) where
-    told : IsDecided epoch p.row ⊎ IsKept x.part.front.kept bytes
+    told : IsDecided epoch p.row ⊎ (HasEnded epoch x.part.front.row ⊎ IsKept x.part.front.kept bytes)
     told = (has-fair (IsFair l x.c x.part) (record { from = Front; to = Node n; bytes = bytes }) x.letters was o.fair) _ spells
 
     offer-at : (row : FrontRow) (m : ℕ) (d : Epoch) → x.part.front.row ≡ Some row → row.stage ≡ stage.Offering m d → m ≡ n → d.0 ≡ epoch → (IsDecided epoch p.row → ⊥) → ((f : ℕ) → IsOver f p.row → f < env.epoch) → Goes heads (node_offered env p parts)
@@ -159,7 +160,7 @@ module _ (k : Setting) (small : k.stream ≤ 2 ^ 30) (x : Conn) (s : Station) (t
         let now : row.epoch.0 ≡ epoch = sym sits.1 ∙ when in
         let away : AwayAgrees l.w l.out l.vs pend l.was_reset x.c m row.epoch.0 x.part =
         subst (StageAgrees l.w l.out l.vs pend l.was_reset x.c x.part row.epoch.0) at (subst (SeatAgrees l.w l.out l.vs pend l.was_reset x.c x.part) found o.seat) in
-        let kept : IsKept x.part.front.kept bytes = ⊎_elim (λ f. absurd (not f)) (λ f. f) told in
+        let kept : IsKept x.part.front.kept bytes = told-kept x.part n epoch bytes row found now not told in
         let offering : IsOffering l.w l.out l.vs pend x.c m row.epoch.0 x.part.front.kept = ⊎_elim
         (λ (a : IsPast row.epoch.0 (x.part.nodes m).row × IsOffering l.w l.out l.vs pend x.c m row.epoch.0 x.part.front.kept). a.1)
         (λ (a : IsDecided row.epoch.0 (x.part.nodes m).row × NodeAgrees l.w l.out l.vs pend l.was_reset x.c (x.part.nodes m)).
@@ -185,7 +186,7 @@ module _ (k : Setting) (small : k.stream ≤ 2 ^ 30) (x : Conn) (s : Station) (t
 
     offer-new : (IsDecided epoch p.row → ⊥) → ((f : ℕ) → IsOver f p.row → f < env.epoch) → Goes heads (node_offered env p parts)
     offer-new not less help =
-        let said : IsDecided epoch p.row ⊎ IsOffered n epoch x.part.front.row = came-says x Front (Node n) epoch (body.Offer parts) bytes help.placed.letters was spells in
+        let said : IsDecided epoch p.row ⊎ IsOffered n epoch x.part.front.row = offer-says x help.placed n epoch parts bytes was spells in
         offer-row x.part.front.row refl (⊎_elim (λ f. absurd (not f)) (λ f. f) said) not less help
 
     answer-goes : Goes heads (Says (taken_sent env))

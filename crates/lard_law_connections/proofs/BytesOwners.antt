@@ -1,6 +1,6 @@
 -- Who serves a connection owns it; and what is seen before the notes of a move. So it is of each rule, by where the connection is.
-use Rattle.std.proofs.Common.{◌≡◌, ℕ, ◌+◌, Bool, true, false, cond, List, [], ◌∷◌, ◌++◌, Option, Some, None, refl, sym, ap, ◌∙◌, subst}
-use Rattle.lard_law_view.specs.Prelude.{Ask, Client, ClientBlock, ClientRules, Completed, Conn, ControlBlock, EndpointParts, Front, FrontEnv, FrontGets, FrontPart, FrontRow, FrontRules, IsNodeEnv, LaterChoice, MayRestOn, Move, Node, NodeEnv, NodeGets, NodePart, NodeRules, Place, Rec, Said, Seen, Setting, Station, Stay, Turn, UntouchedRules, Work, assigned_notes, came_for, client_begins, client_does, client_rule, come_progress, front_does, front_rest, front_rule, goes_on, last_words, named_records, node_does, node_read, node_rule, on_segment, over_note, owner_step, placed, read_progress, reads_first, serving_settled, stands, tagged, taken_sent, tale_at, tombstone, with_work, without, work_of}
+use Rattle.std.proofs.Common.{◌≡◌, ℕ, ◌+◌, Bool, true, false, cond, List, [], ◌∷◌, ◌++◌, Option, Some, None, refl, sym, ap, ◌∙◌, subst, append_assoc, append-nil}
+use Rattle.lard_law_view.specs.Prelude.{Ask, Client, ClientBlock, ClientRules, Completed, Conn, ControlBlock, EndpointParts, First, Front, FrontEnv, FrontGets, FrontPart, FrontRest, FrontRow, FrontRules, IsNodeEnv, LaterChoice, MayRestOn, Move, Node, NodeEnv, NodeGets, NodePart, NodeRules, Place, Reading, Rec, Said, Seen, Service, Setting, Station, Stay, Turn, UntouchedRules, Work, assigned_notes, back_notes, back_part, back_rest, came_for, client_begins, client_does, client_rule, come_progress, front_does, front_reads, front_rest, front_rule, given_sent, goes_on, last_words, named_records, node_does, node_read, node_rule, on_segment, over_note, owner_step, placed, read_progress, reads_first, returned_row, serving_settled, stands, tagged, taken_sent, tale_at, tombstone, with_work, without, work_of}
 use Rattle.lard_law_view.proofs.EachClient.{client_seen, each-client, of-client}
 use Rattle.lard_law_view.proofs.EachFront.{admission, each-front, of-front}
 use Rattle.lard_base.specs.declared.place.TimerKind.TheVariants as kind
@@ -17,12 +17,12 @@ use Rattle.lard_law_view.proofs.Saying.{NotedAt}
 use Rattle.lard_dispatch.specs.declared.dispatch.First.TheVariants as first
 use Rattle.lard_rules.specs.Front as front
 use Rattle.lard_handoff_front.specs.declared.row.FrontConn.TheVariants as stage
-use Rattle.lard_history.proofs.Each.{Each}
+use Rattle.lard_history.proofs.Each.{Each, Each-append}
 use Rattle.lard_journal.specs.declared.rec.Rec.TheVariants as rec
 use Rattle.lard_law_view.proofs.Notes.{same-number}
 use Rattle.lard_rules.specs.Node as node
 use Rattle.lard_rules.proofs.NodeCases.{IsHereWith, IsInItsEpoch, KeptByNode, node-keeps}
-use Rattle.lard_rules.proofs.FrontCases.{IsAsGiven, IsInStage, KeptByFront, KeptBySegment, front-keeps, heard_reading, of-stage}
+use Rattle.lard_rules.proofs.FrontCases.{IsAsGiven, IsInStage, KeptByFront, KeptByReturn, KeptBySegment, back_reading, front-keeps, heard_reading, of-stage}
 
 -- ---- notes
 
@@ -115,33 +115,71 @@ module _ (x : Conn) (env : FrontEnv) (sits : IsPlaced x) where
   abbrev FrontServes : front.FrontDeed → Type 0
   FrontServes d = Each (NotedAt Front x.c) (notes_of d) → OwnerServes x.c owner_now (notes_of d)
 
-  -- it owns what it holds, and what is read and placed notes plain records
-  held-serves : (row : FrontRow) (b : ControlBlock) → IsInStage p row (stage.Held b)
-      → (rs : List Rec) → Each IsPlain rs → Each (NotedAt Front x.c) rs → OwnerServes x.c owner_now rs
-  held-serves row b at rs plain noted = plain-serve Front x.c owner_now rs noted plain
+  -- what was noted so far is of the owner, and what is plain behind it is so, too
+  abbrev Owned : List Rec → Type 0
+  Owned rs = (ms : List Rec) → Each IsPlain ms → Each (NotedAt Front x.c) (rs ++ ms) → OwnerServes x.c owner_now (rs ++ ms)
+
+  owned-more : (rs ms : List Rec) → Each IsPlain ms → Owned rs → Owned (rs ++ ms)
+  owned-more rs ms plain h ns also = subst (λ (l : List Rec). Each (NotedAt Front x.c) l → OwnerServes x.c owner_now l) (sym (append_assoc rs ms ns))
+      (h (ms ++ ns) (Each-append IsPlain ms ns plain also))
+
+  owned-serves : (rs : List Rec) → Owned rs → Each (NotedAt Front x.c) rs → OwnerServes x.c owner_now rs
+  owned-serves rs h = subst (λ (l : List Rec). Each (NotedAt Front x.c) l → OwnerServes x.c owner_now l) (append-nil rs) (h [] tt)
+
+  -- it owns what it holds
+  held-owned : (row : FrontRow) (b : ControlBlock) → IsInStage p row (stage.Held b) → Owned []
+  held-owned row b at ms plain noted = plain-serve Front x.c owner_now ms noted plain
       (ap (λ (w : Owning). w.owner) (of-stage (Sits (owning (tale_at x)) x.part.nodes) p row (stage.Held b) at sits.sits).0.1.0)
+
+  -- and what it took back
+  back-owned : (row : FrontRow) → Owned (back_notes env.serve.c row)
+  back-owned row ms plain noted = (
+    tt,
+    (
+      tt,
+      subst (λ (b : Bool). OwnerServes x.c (cond b (Some Front) owner_now) ms) (sym (same-number env.serve.c x.c noted.0))
+          (plain-serve Front x.c (Some Front) ms noted.1.1 plain refl),
+    ),
+  )
+
+  -- what is read notes plain records, and so does what is placed
+  read-serves : (r : Reading) → Owned r.service.notes → Owned (front_reads env.serve r).service.notes
+  read-serves r h = reads-notes Owned owned-more env.serve r h
+
+  settled-serves : (w : Service) → Owned w.notes → Each (NotedAt Front x.c) (serving_settled env.serve w).1.notes → OwnerServes x.c owner_now (serving_settled env.serve w).1.notes
+  settled-serves w h = owned-serves (serving_settled env.serve w).1.notes (subst Owned (sym (settled-is env.serve w).notes) h)
+
+  placed-serves : (part : FrontPart) (row : FrontRow) (rest : FrontRest) (w : Service) (path : List ℕ) (f : First) → Owned w.notes → FrontServes (front.Does (placed env part row rest w path f))
+  placed-serves part row rest w path (first.Go choice) h = owned-serves (placed env part row rest w path (first.Go choice)).turn.notes
+      (owned-more w.notes (rec.Admitted env.serve.c ∷ rec.AssignedFirst env.serve.c (w.count + 1) path choice.node choice.add choice.remove ∷ []) (tt, (tt, tt)) h)
+  placed-serves part row rest w path first.Waits h = owned-serves (w.notes ++ rec.Waits env.serve.c ∷ []) (owned-more w.notes (rec.Waits env.serve.c ∷ []) (tt, tt) h)
 
   words-serve : (o : Option Said) → FrontServes (front.Says (front.turn_here (tombstone env.serve o)))
   words-serve None noted = tt
   words-serve (Some q) noted = tt
 
-  by-segment : (bytes : List ℕ) (s : Said) → KeptBySegment env p bytes s (λ w o. Each IsPlain w.notes) FrontServes
+  by-segment : (bytes : List ℕ) (s : Said) → KeptBySegment env p bytes s (λ w o. Owned w.notes) FrontServes
   by-segment bytes s = record {
     drops = λ noted. tt;
     begins = λ none plain noted. (tt, tt);
-    reads = λ row b at. reads-notes (Each IsPlain) plain-more env.serve (heard_reading p b s) tt;
-    holds = λ row b w at plain. held-serves row b at (serving_settled env.serve w).1.notes (subst (Each IsPlain) (sym (settled-is env.serve w).notes) plain);
-    hands = λ row b w path choice at plain is. held-serves row b at (placed env p row (front_rest p.rest) w path (first.Go choice)).turn.notes
-        (plain-more w.notes (rec.Admitted env.serve.c ∷ rec.AssignedFirst env.serve.c (w.count + 1) path choice.node choice.add choice.remove ∷ [])
-        (tt, (tt, tt)) plain);
-    waits = λ row b w path at plain is. held-serves row b at (w.notes ++ rec.Waits env.serve.c ∷ [])
-        (plain-more w.notes (rec.Waits env.serve.c ∷ []) (tt, tt) plain);
+    reads = λ row b at. read-serves (heard_reading p b s) (held-owned row b at);
+    holds = λ row b w at owned. settled-serves w owned;
+    hands = λ row b w path choice at owned is. placed-serves p row (front_rest p.rest) w path (first.Go choice) owned;
+    waits = λ row b w path at owned is. placed-serves p row (front_rest p.rest) w path first.Waits owned;
     stays = λ row b at noted. tt;
     forwards = λ row n e at noted. tt;
     words = λ row last at. words-serve (last_words last.reason last s);
   }
 
-  fronts_serve : KeptByFront env p (λ g. Unit {0}) (λ w o. Each IsPlain w.notes) FrontServes
+  by-return : (said : List (Place × List ℕ)) (row : FrontRow) (parts : EndpointParts) → KeptByReturn env p said row parts (λ w o. Owned w.notes) FrontServes
+  by-return said row parts = record {
+    reads = read-serves (back_reading env row parts) (back-owned row);
+    holds = λ w owned. settled-serves w owned;
+    hands = λ w path choice owned is. placed-serves (back_part p row parts) (returned_row parts row) (back_rest parts) w path (first.Go choice) owned;
+    waits = λ w path owned is. placed-serves (back_part p row parts) (returned_row parts row) (back_rest parts) w path first.Waits owned;
+  }
+
+  fronts_serve : KeptByFront env p (λ g. Unit {0}) (λ w o. Owned w.notes) FrontServes
   fronts_serve = record {
     drops = λ noted. tt;
     hears = λ bytes s m. by-segment bytes s;
@@ -153,11 +191,13 @@ module _ (x : Conn) (env : FrontEnv) (sits : IsPlaced x) where
         (assigned-silent env.serve.c ask rest.assigned ask.paths (env.later ask).choices));
     ends_again = λ n epoch last m row found away again noted. tt;
     ends = λ n epoch last m row found away noted. (tt, (tt, tt));
+    gives_again = λ n epoch parts m row found past noted. tt;
+    returns = λ n epoch given m row parts back. by-return (given_sent env.serve.c n epoch given) row parts;
     admits = λ choice made met row b path at target noted. (tt, (tt, tt));
   }
 
   front-serves : (g : FrontGets) → IsAsGiven env p g → FrontServes (front_rule env p g)
-  front-serves g is = front-keeps env p (λ g. Unit {0}) (λ w o. Each IsPlain w.notes) FrontServes fronts_serve g is tt
+  front-serves g is = front-keeps env p (λ g. Unit {0}) (λ w o. Owned w.notes) FrontServes fronts_serve g is tt
 
 -- ---- a node
 

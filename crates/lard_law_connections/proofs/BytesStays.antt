@@ -1,19 +1,18 @@
 -- The rules of a node keep the agreement of a connection that it has.
-use Rattle.std.proofs.Common.{Bool, List, None, Ok, Option, Some, [], ap, append-nil, append_assoc, arith, false, inl, inr, refl, subst, sym, true, ℕ, ◌++◌, ◌-◌, ◌==◌, ◌||◌, ◌∙◌, ◌∷◌, ◌≡◌, ◌⊎◌}
+use Rattle.std.proofs.Common.{Bool, List, None, Ok, Option, Some, [], ap, append-nil, append_assoc, arith, inl, inr, refl, subst, sym, true, ℕ, ◌++◌, ◌-◌, ◌==◌, ◌||◌, ◌∙◌, ◌∷◌, ◌≡◌, ◌⊎◌}
 use Rattle.std.specs.List.{find, list_any}
 use Rattle.std.proofs.lemmas.Bool.{cond_both}
-use Rattle.lard_law_view.specs.Prelude.{Adopt, Asked, BackConn, BackRow, ControlBlock, Ending, EndpointParts, IsWord, NodeDeed, NodeEnv, NodePart, NodeTurn, Place, RECEIVE_WINDOW, Said, SaysAnswers, Stay, Stream, Turn, Verdict, Want, Work, adopted, after_timer, again_sent, asked_sent, back_endpoint, back_held, both_of, came_for, come_by, come_progress, ended_sent, goes_on, here, is_from, is_reset_record, is_tag_awaited, is_under, kept_after, may_freeze, node_begins, node_fired, node_fired_by, node_heard_by, node_read_by, offer_answer, offered_by, on_segment, parts_of, read_progress, reads_batch, restored, resumed, serving, serving_ready_of, serving_settled, spoken, state_of, staying, tagged, tagged_by, taken_sent, timed, turn_by, wants_sent, with_work, without, work_of}
+use Rattle.lard_law_view.specs.Prelude.{Adopt, Asked, BackConn, BackRow, ControlBlock, Ending, EndpointParts, IsWord, NodeDeed, NodeEnv, NodePart, NodeTurn, Place, Said, SaysAnswers, Stay, Stream, Turn, Verdict, Want, Work, adopted, after_timer, again_sent, asked_sent, back_endpoint, back_held, both_of, came_for, come_by, come_progress, ended_sent, goes_on, here, is_from, is_reset_record, is_tag_awaited, is_under, kept_after, may_freeze, node_begins, node_fired, node_fired_by, node_heard_by, node_read_by, offer_answer, offered_by, on_segment, parts_of, read_progress, reads_batch, serving, serving_ready_of, serving_settled, spoken, state_of, staying, tagged, tagged_by, taken_sent, timed, turn_by, wants_sent, with_work, without, work_of}
 use Rattle.lard_base.specs.declared.place.Place.TheVariants as place
 use Rattle.lard_base.specs.declared.place.TimerKind.TheVariants as kind
 use Rattle.lard_law_connections.specs.BytesAgreement.{AreOnTheWay, BackAgrees, EndAgreesPending, FrontHolds, HoldsItPending, NodeAgrees, RowAgrees, StayAgrees, StayComesOn}
 use Rattle.lard_law_connections.specs.BytesKeeping.{ContentsKeep, DeedKeeps, IsTalk, NodeHearsTruth, NodeTimerKeeps, NodeSays, NodeTurned, OffersKeep, ReadsKeep, TagsKeep}
 use Rattle.lard_law_connections.specs.BytesTurning.{EndTurned}
 use Rattle.lard_law_connections.proofs.BytesEnding.{settled-ends}
-use Rattle.lard_law_connections.proofs.BytesHolding.{begins-so, fired-ends, heard-so, same-so}
+use Rattle.lard_law_connections.proofs.BytesHolding.{adopted-so, fired-ends, heard-so, same-so}
 use Rattle.lard_law_connections.proofs.BytesServing.{MayGo, So, go-on}
 use Rattle.lard_law_connections.proofs.BytesWorking.{Right, Works, came-so, first-so, goes-so, tagged-so, verdicts_of}
 use Rattle.lard_law_connections.proofs.BytesWays.{batch-right, came-right, come_progress-on, goes-right, read_progress-on, tagged-right}
-use Rattle.lard_endpoint.proofs.Adoption.{Stands, frozen_stands}
 use Rattle.lard_handoff_back.specs.declared.row.BackConn.TheVariants as back
 use Rattle.lard_handoff_back.specs.declared.table.Adopt.TheVariants.{New, Again, Stale, Refuse}
 use Rattle.lard_journal.specs.declared.rec.Rec.TheVariants as rec
@@ -178,19 +177,6 @@ module _ (env : NodeEnv) (w out : Stream) (vs : List Verdict) (was_reset : Bool)
 
   -- ---- an Offer
 
-  -- what is adopted is the endpoint that was frozen, which owes an ACK
-  abbrev moved : ControlBlock → ControlBlock
-  moved b = record { recv = b.recv; send = b.send; owed = true; last_window = RECEIVE_WINDOW; reset = false }
-
-  same-send : (b : ControlBlock) (count : ℕ) → Stands b → b.send.irs ≡ b.recv.irs → b.send ≡ resumed (parts_of b count)
-  same-send b count s irs = λ i. record b.send { irs = irs i; nxt = s.nxt_is i; rest = s.rest_is i; total = (let e : b.send.total ≡ b.send.una - 1 = omega (arith, s.una_is) in e) i; finished = s.finished_is i }
-
-  same-recv : (b : ControlBlock) → Stands b → b.recv ≡ restored b.recv.irs b.recv.got b.recv.fin b.recv.unread
-  same-recv b s = λ i. record b.recv { discarding = s.discarding_is i }
-
-  adopted-is : (b : ControlBlock) (count : ℕ) → Stands b → b.send.irs ≡ b.recv.irs → moved b ≡ adopted (parts_of b count)
-  adopted-is b count s irs = λ i. record { recv = same-recv b s i; send = same-send b count s irs i; owed = true; last_window = RECEIVE_WINDOW; reset = false }
-
   module _ (talk : IsTalk env w out vs) (pend : List Verdict) (p : NodePart) (b : ControlBlock) (count : ℕ) (h : FrontHolds w out vs pend b count) (frozen : may_freeze b ≡ true) where
     abbrev parts : EndpointParts
     parts = parts_of b count
@@ -198,19 +184,9 @@ module _ (env : NodeEnv) (w out : Stream) (vs : List Verdict) (was_reset : Bool)
     abbrev pub Begins : ControlBlock → Type 0
     Begins d = So env.serve w out vs (serving d count (rec.Took (place.Node env.n) env.serve.c (record { 0 = env.epoch }) ∷ [])) []
 
-    stands : Stands b
-    stands = frozen_stands b h.holds.sound frozen
-
     pub offered-so : Begins (adopted parts)
-    offered-so =
-        let held = h.holds in
-        let read = held.has_read in
-        subst Begins (adopted-is b count stands h.holds.sound.same_irs)
-        (begins-so env.serve w out vs talk.says [] (moved b) count (rec.Took (place.Node env.n) env.serve.c (record { 0 = env.epoch }) ∷ []) held.counted
-        (record { same_irs = held.sound.same_irs; speaks = held.speaks; out_is = held.out_is; hears = held.hears })
-        (record { wnd = held.wide.wnd; wl1 = held.wide.wl1; wl2 = held.wide.wl2 })
-        (record { cut = read.cut; goes_on = read.goes_on; stops = read.stops; fronts = read.fronts })
-        (record { each = (tt, tt); served = omega arith; size = omega arith; unless_ended = inr refl; serve = λ t told. ((λ J e. tt), tt) }))
+    offered-so = adopted-so env.serve w out vs talk.says [] b count h.holds frozen (rec.Took (place.Node env.n) env.serve.c (record { 0 = env.epoch }) ∷ [])
+        (record { each = (tt, tt); served = omega arith; size = omega arith; unless_ended = inr refl; serve = λ t told. ((λ J e. tt), tt) })
 
     offers-turn : (a : Adopt) → Keeps p (offered_by env parts p a)
     offers-turn New =

@@ -5,8 +5,7 @@ use Rattle.lard_law_view.specs.Prelude.{Epoch, Event, Front, HasRule, IsViewed, 
 use Rattle.lard_base.specs.declared.event.Event.TheVariants as event
 use Rattle.lard_law_view.proofs.AnyShape.{AnyShape, IsAct, SomeGift, SomeNote, SomeTimer, step-any}
 use Rattle.lard_law_view.proofs.Heads.{ActsAt}
-use Rattle.lard_law_view.proofs.Saying.{GaveAt, NotedAt}
-use Rattle.lard_law_view.proofs.Shapes.{NamesNobody}
+use Rattle.lard_law_view.proofs.Saying.{GaveAt, NamesNobody, NotedAt}
 use Rattle.lard_law_view.proofs.Timers.{IsTimerAt, timer_rows-are}
 use Rattle.lard_history.proofs.Each.{Each, Each-append, Each-weaker}
 use Rattle.lard_journal.specs.declared.rec.Rec.TheVariants as rec

@@ -16,6 +16,8 @@ use Rattle.lard_law_view.proofs.After.{IsAfter, step-after}
 use Rattle.lard_law_view.proofs.AnyShape.{AnyShape, IsAct, step-any}
 use Rattle.lard_law_view.proofs.Carried.{IsOn, carried-keep}
 use Rattle.lard_law_view.proofs.OwnRecords.{IsDrain, IsNoClosing, behind}
+use Rattle.lard_law_view.proofs.Shapes.{ClosesBehind, HearsReturn}
+use Rattle.lard_law_connections.proofs.PlacesRuns.{none-back}
 use Rattle.lard_rules.specs.declared.fault.Refusal.TheVariants.{LastNode, NoNode}
 use Rattle.lard_rules.specs.declared.fault.StepFault.TheVariants.{Refused}
 use Rattle.lard_rules.specs.declared.front.FrontIn.TheVariants as input
@@ -43,21 +45,25 @@ allows-none = record {
   cleared = λ place c kind. tt;
 }
 
-module _ (m : Machine) where
-  -- what the step adds
-  abbrev AddsNone : Event → Machine → Type 0
-  AddsNone e n = IsDrain e ⊎ ((rs : List Rec) × (n.journal ≡ m.journal ++ rs) × Each IsNoClosing rs)
+-- what the step adds
+abbrev AddsNone : Machine → Event → Machine → Type 0
+AddsNone m e n = IsDrain e ⊎ ((rs : List Rec) × (n.journal ≡ m.journal ++ rs) × Each IsNoClosing rs)
 
-  told-none : (w : Machine) (e : Event) (place : Place) (o : Out) → IsAct m w e place o → AddsNone e (machine_told w e (behind e) place o)
-  told-none w e place o act = ⊎_elim (λ (d : IsDrain e). inl d) (λ (none : Each IsNoClosing o.notes). inr (
+module _ (m : Machine) (never : (e : Event) (c from : ℕ) → HearsReturn m e c from → ⊥) where
+  still-none : (w : Machine) (e : Event) (place : Place) (o : Out) → IsAct m w e place o → Each IsNoClosing o.notes → AddsNone m e (machine_told w e (behind e) place o)
+  still-none w e place o act none = inr (
     first_rows w e ++ o.notes ++ last_rows w place o,
     told-journal w e place o ∙ ap (λ (J : List Rec). J ++ (first_rows w e ++ o.notes ++ last_rows w place o)) act.put.journal,
     Each-append IsNoClosing (first_rows w e ++ o.notes) (last_rows w place o)
         (Each-append IsNoClosing (first_rows w e) o.notes (first-calm IsNoClosing allows-none w e) none)
         (last-calm IsNoClosing allows-none w place o (gifts-calm IsNoClosing allows-none place o.gave act.gave) (timers-calm IsNoClosing allows-none place o.timers act.timers)),
-  )) act.closes
+  )
 
-  any-none : AnyShape m AddsNone
+  told-none : (w : Machine) (e : Event) (place : Place) (o : Out) → IsAct m w e place o → AddsNone m e (machine_told w e (behind e) place o)
+  told-none w e place o act = ⊎_elim (λ (d : IsDrain e). inl d)
+      (⊎_elim (λ (back : (c : ℕ) × ClosesBehind m e c o.notes). absurd (never e back.0 back.1.from back.1.hears)) (still-none w e place o act)) act.closes
+
+  any-none : AnyShape m (AddsNone m)
   unfolding clocked
   any-none = record {
     acts = told-none;
@@ -132,7 +138,7 @@ module _ (config : Config) (files : List (List ℕ × List ℕ)) (checked : conf
         → AreLawful MustClose n.journal
     step k n e on h rule is =
         let after : IsAfter k e n = step-after k on.view e n rule is in
-        let closes : closed_in after.step ≡ to_close k.journal e = step-closes k n on after.step after.is e is (step-any k on.view (AddsNone k) (any-none k) e n rule is) in
+        let closes : closed_in after.step ≡ to_close k.journal e = step-closes k n on after.step after.is e is (step-any k on.view (AddsNone k) (any-none k (none-back config files k on.reached)) e n rule is) in
         let must : MustClose k.journal after.step = closes ∙ ap (due_to_close k.journal) (sym after.follows.is) in
         subst (AreLawful MustClose) (sym after.is) (one-more MustClose k.journal after.step after.one h must)
 

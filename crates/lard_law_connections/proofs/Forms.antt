@@ -4,7 +4,7 @@ use Rattle.std.proofs.Common.{◌≡◌, ℕ, Bool, true, false, cond, nat_lt, L
 use Rattle.std.specs.Prelude.{◌⊎◌}
 use Rattle.std.proofs.lemmas.Bool.{cond_both}
 use Rattle.std.specs.FinMap as table
-use Rattle.lard_law_view.specs.Prelude.{BackIn, Client, ClientBlock, Event, Front, FrontIn, HasRule, IsViewed, Job, Machine, MayDrain, Node, NodeState, Packet, Place, Rec, Station, StepFault, ToClient, Turn, What, client_aborts, client_acted, client_acts, client_gets, client_goes_on, client_holds, client_injects, client_opens, client_shuts, client_takes, client_timer, client_writes, clocked, completes, decoded, delivered, disk_at, drained, from_place, front_acts, front_gave, front_setting, front_step, happens, has_other_open, is_client_armed, is_no_job, is_no_node, job_at, limit_reached, lost, machine_opened, machine_step, machine_to_client, machine_to_front, machine_told, machine_wrote, node_acts, node_at, node_gave, node_setting, node_step, packet_at, passed, request, timer, to_place, unless_limit, written_len}
+use Rattle.lard_law_view.specs.Prelude.{BackIn, Client, ClientBlock, Event, Front, FrontIn, HasRule, IsViewed, Job, Machine, MayClose, Node, NodeState, Packet, Place, Rec, Station, StepFault, ToClient, Turn, What, client_aborts, client_acted, client_acts, client_gets, client_goes_on, client_holds, client_injects, client_opens, client_shuts, client_takes, client_timer, client_writes, clocked, completes, decoded, delivered, disk_at, drained, from_place, front_acts, front_gave, front_setting, front_step, happens, has_other_open, is_client_armed, is_no_job, is_no_node, job_at, limit_reached, lost, machine_opened, machine_step, machine_to_client, machine_to_front, machine_told, machine_wrote, node_acts, node_at, node_gave, node_setting, node_step, packet_at, passed, request, timer, to_place, unless_limit, written_len}
 use Rattle.lard_base.specs.declared.event.Event.TheVariants as event
 use Rattle.lard_law_connections.proofs.Calm.{Allows, AllowsNotes, AtClock, IsCalm, OnlyAct, passed-calm, step-calm}
 use Rattle.lard_law_view.proofs.Heads.{ActsAt}
@@ -37,6 +37,12 @@ abbrev pub Comes : Machine → Event → ℕ → NodeState → BackIn → Type 0
 Comes m e i s (back.Message from bytes) = (k : ℕ) × (p : Packet) × (e ≡ event.Deliver k) × (packet_at m.net k ≡ Some p) × (p.from ≡ from) × (p.to ≡ Node i) × (p.bytes ≡ bytes)
 Comes m e i s (back.Timer c) = (e ≡ event.Timer (Node i) c) × (x : Station) × (table.get m.clients c ≡ Some x)
 Comes m e i s (back.Disk j) = (e ≡ event.Disk i j) × (job : Job) × (job_at s.disk j ≡ Some job)
+
+-- And this to the front end: a message is of the packet that is delivered, and a node is drained while another one is open.
+abbrev pub ComesToFront : Machine → Event → FrontIn → Type 0
+ComesToFront m e (input.Message from bytes) = (k : ℕ) × (p : Packet) × (e ≡ event.Deliver k) × (packet_at m.net k ≡ Some p) × (p.from ≡ Node from) × (p.to ≡ Front) × (p.bytes ≡ bytes)
+ComesToFront m e (input.Drain n) = MayClose m.front (input.Drain n)
+ComesToFront m e _ = Unit {0}
 
 -- so that node acts in the step of the event
 pub comes-at : (m : Machine) (e : Event) (i k : ℕ) (s : NodeState) (x : BackIn) → Comes m e k s x → ActsAt m.net e (Node i) → k ≡ i
@@ -72,7 +78,7 @@ pub record Passes (m : Machine) (e : Event) (n : Machine) : Type 0 where
 -- The front end gets this, and moves.
 pub record FrontStep (m : Machine) (e : Event) (n : Machine) : Type 0 where
   pub comes : FrontIn
-  pub may : MayDrain m.front comes
+  pub came : ComesToFront m e comes
   pub is : n ≡ front_gave m e (behind e) (front_step (front_setting m) m.front comes)
   pub no_node : NodeActs m e → ⊥
 
@@ -126,8 +132,8 @@ module _ (m : Machine) where
     passed-form : IsUntimed e → IsOther e → IsForm m e (passed m e (behind e))
     passed-form untimed other = InPasses (record { is = refl; untimed = untimed; other = other })
 
-    gets-form : (NodeActs m e → ⊥) → (x : FrontIn) → MayDrain m.front x → IsForm m e (front_acts m e (behind e) x)
-    gets-form no_node x may = InFront (record { comes = x; may = may; is = refl; no_node = no_node })
+    gets-form : (NodeActs m e → ⊥) → (x : FrontIn) → ComesToFront m e x → IsForm m e (front_acts m e (behind e) x)
+    gets-form no_node x came = InFront (record { comes = x; came = came; is = refl; no_node = no_node })
 
     module _ (untimed : IsUntimed e) (no_front : FrontActs m e → ⊥) where
       acts-form : (i : ℕ) (x : BackIn) (o : Option NodeState) → node_at m.nodes i ≡ o → IsOther e → ((s : NodeState) → Comes m e i s x) → IsForm m e (node_acts m e (behind e) i x o)
@@ -184,17 +190,17 @@ module _ (m : Machine) where
     front-gets no_node c None = passed-form e tt tt
     front-gets no_node c (Some x) = gets-form e no_node (input.Segment c (record { 0 = x.iss }) p.bytes) tt
 
-    from-form : (NodeActs m e → ⊥) → (from : Place) → IsForm m e (from_place m k p.bytes from)
-    from-form no_node (Client c) = front-gets no_node c (table.get m.clients c)
-    from-form no_node Front = passed-form e tt tt
-    from-form no_node (Node i) = gets-form e no_node (input.Message i p.bytes) tt
+    from-form : (NodeActs m e → ⊥) → (from : Place) → p.from ≡ from → p.to ≡ Front → IsForm m e (from_place m k p.bytes from)
+    from-form no_node (Client c) sender goal = front-gets no_node c (table.get m.clients c)
+    from-form no_node Front sender goal = passed-form e tt tt
+    from-form no_node (Node i) sender goal = gets-form e no_node (input.Message i p.bytes) (k, p, refl, at, sender, goal, refl)
 
     client-gets-form : (FrontActs m e → ⊥) → (NodeActs m e → ⊥) → (c : ℕ) (o : Option Station) → IsForm m e (machine_to_client m k p.bytes c o)
     client-gets-form no_front no_node c None = passed-form e tt tt
     client-gets-form no_front no_node c (Some x) = goes-form e tt no_front no_node (rec.Got k ∷ []) c x (client_gets x.client (decoded p.bytes c ToClient))
 
     place-form : (to : Place) → p.to ≡ to → IsForm m e (to_place m k p to)
-    place-form Front is = from-form (λ h. let no : Front ≡ Node h.0 = its-place Front (Node h.0) is h.1 in cc) p.from
+    place-form Front is = from-form (λ h. let no : Front ≡ Node h.0 = its-place Front (Node h.0) is h.1 in cc) p.from refl is
     place-form (Client c) is = client-gets-form (λ h. let no : Client c ≡ Front = its-place (Client c) Front is h in cc)
         (λ h. let no : Client c ≡ Node h.0 = its-place (Client c) (Node h.0) is h.1 in cc) c (table.get m.clients c)
     place-form (Node i) is = acts-form e tt (λ h. let no : Node i ≡ Front = its-place (Node i) Front is h in cc) i (back.Message p.from p.bytes)

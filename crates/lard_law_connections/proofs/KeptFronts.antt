@@ -1,12 +1,12 @@
 -- What the front end does leaves of a connection what its stage awaits.
-use Rattle.std.proofs.Common.{subst, ◌≡◌, ◌+◌, ℕ, true, false, List, [], length, map, Option, Some, None, refl, ap, ◌∙◌}
-use Rattle.lard_law_view.specs.Prelude.{Conn, ControlBlock, Ending, FilesAt, FrontConn, FrontDeed, FrontEnv, FrontGets, FrontPart, FrontRest, FrontRow, HasTarget, Said, Seen, front_does, front_fired, front_rest, front_rests, front_rule, grown, is_away, is_row_at, is_with, parts_of, serving_settled, spoken, without}
+use Rattle.std.proofs.Common.{⊎_elim, subst, ◌≡◌, ◌+◌, ℕ, true, false, List, [], length, map, Option, Some, None, refl, ap, ◌∙◌}
+use Rattle.lard_law_view.specs.Prelude.{Conn, ControlBlock, Ending, EndpointParts, FilesAt, FrontConn, FrontDeed, FrontEnv, FrontGets, FrontPart, FrontRest, FrontRow, HasTarget, Place, Said, Seen, back_part, back_rest, front_does, front_fired, front_rest, front_rests, front_rule, given_sent, grown, is_away, is_row_at, is_with, parts_of, returned_row, serving_settled, spoken, without}
 use Rattle.lard_base.specs.declared.place.TimerKind.TheVariants as kind
 use Rattle.lard_law_connections.specs.Kept.{FrontKeeps, FrontRowKeeps, FrontStageKeeps, IsKeptByStage}
 use Rattle.lard_rules.specs.Front.{Drops, Says, Does}
 use Rattle.lard_handoff_front.specs.declared.row.FrontConn.TheVariants as stage
 use Rattle.lard_rules.specs.declared.places.Ending.TheVariants as ending
-use Rattle.lard_rules.proofs.FrontCases.{IsAsGiven, IsInStage, KeptByFront, KeptBySegment, begun_row, begun_service, front-keeps, heard_service, of-stage, waiting_service}
+use Rattle.lard_rules.proofs.FrontCases.{IsAsGiven, IsBack, IsInStage, KeptByFront, KeptByReturn, KeptBySegment, begun_row, begun_service, front-keeps, heard_service, of-stage, waiting_service}
 
 abbrev pub DeedKeeps : ℕ → FrontDeed → Type 0
 DeedKeeps c Drops = Unit {0}
@@ -77,6 +77,24 @@ module _ (env : FrontEnv) (p : FrontPart) (h : FrontKeeps env.serve.c p) where
   none-left epoch (stage.Moved node e) away k = ap (without kind.Offer 0) k.1
   none-left epoch _ away k = let no : false ≡ true = away in absurd cc
 
+  -- ---- a connection that comes back
+
+  none-back : (n epoch : ℕ) (given : Option EndpointParts) (row : FrontRow) (parts : EndpointParts) → IsBack p n epoch given row parts
+      → without kind.Offer 0 p.kept ≡ []
+  none-back n epoch given row parts back = ⊎_elim
+      (λ (at : IsInStage p row (stage.Offering n back.from)). ap (without kind.Offer 0) (at-stage row (stage.Offering n back.from) at).1.1)
+      (λ (at : IsInStage p row (stage.Moved n back.from)). ap (without kind.Offer 0) (at-stage row (stage.Moved n back.from) at).1) back.at
+
+  by-return : (said : List (Place × List ℕ)) (row : FrontRow) (parts : EndpointParts) → without kind.Offer 0 p.kept ≡ []
+      → KeptByReturn env p said row parts (λ w o. Unit {0}) Keeps
+  by-return said row parts none = record {
+    reads = tt;
+    holds = λ w r. held-rests env.serve.c (back_part p row parts) (returned_row parts row) (back_rest parts) none (serving_settled env.serve w).0;
+    hands = λ w path choice r is. (tt, (parts_of w.block w.count, refl, refl));
+    waits = λ w path r is. waiting-rests env.serve.c (back_part p row parts) (returned_row parts row) (record (back_rest parts) { target = Some path })
+        none tt (spoken env.serve (waiting_service env w) []).0;
+  }
+
   by-rules : KeptByFront env p (λ g. Unit {0}) (λ w o. Unit {0}) Keeps
   by-rules = record {
     drops = tt;
@@ -93,6 +111,8 @@ module _ (env : FrontEnv) (p : FrontPart) (h : FrontKeeps env.serve.c p) where
         rest-row n epoch (record rest { asks = ask.number; tag = map (λ x. x.node) (env.later ask).choices; assigned = rest.assigned + length (env.later ask).choices }) (ap (λ (o : Option FrontRest). (front_rest o).count) found) p.row there h;
     ends_again = λ n epoch last m row found away again. tt;
     ends = λ n epoch last m row found away. none-left epoch row.stage away (at-stage row row.stage (found, refl));
+    gives_again = λ n epoch parts m row found past. tt;
+    returns = λ n epoch given m row parts back. by-return (given_sent env.serve.c n epoch given) row parts (none-back n epoch given row parts back);
     admits = λ choice made met row b path at target. (tt, (parts_of b (front_rest p.rest).count, refl, refl));
   }
 

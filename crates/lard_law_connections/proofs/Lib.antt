@@ -5,18 +5,22 @@ pub mod Happened
 pub mod PolicyAsides
 pub mod PolicyCounted
 pub mod PolicyFronts
+pub mod PolicyHeads
 pub mod PolicyHomes
 pub mod PolicyIns
 pub mod PolicyLeading
 pub mod PolicyLines
 pub mod PolicyLoads
-pub mod PolicyMessages
+pub mod ReturnedParts
+pub mod ReturnedSteps
 pub mod PolicyNumbers
 pub mod PolicyOrder
 pub mod PolicyReading
+pub mod PolicyReturns
 pub mod PolicyServers
 pub mod PolicyStanding
 pub mod PolicySteps
+pub mod PolicyTelling
 pub mod PolicyWaiting
 pub mod PlacesClients
 pub mod PlacesEarly
@@ -34,6 +38,7 @@ pub mod PlacesRows
 pub mod PlacesRuns
 pub mod PlacesTelling
 pub mod PlacesTurns
+pub mod PlacesUnrefused
 pub mod PlacesWithNode
 pub mod LimitsRows
 pub mod LimitsMoves
@@ -63,6 +68,7 @@ pub mod MotionRuns
 pub mod LineBounds
 pub mod LineCalls
 pub mod LineCharging
+pub mod LineClosed
 pub mod LineFrontMessages
 pub mod LineFronts
 pub mod LineHearing
@@ -129,6 +135,7 @@ pub mod BytesMoves
 pub mod BytesClientMoves
 pub mod BytesFrontMoves
 pub mod BytesFrontMessages
+pub mod BytesReturns
 pub mod BytesFrontEnds
 pub mod BytesNodeMoves
 pub mod BytesNodeTurns

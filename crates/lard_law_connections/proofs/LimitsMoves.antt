@@ -5,8 +5,8 @@ use Rattle.std.specs.List.{fold}
 use Rattle.lard_law_view.specs.Prelude.{Body, Came, Client, ClientBlock, Conn, EachRow, Front, IsConnNumber, IsConnSound, Kind, Letter, Message, Move, Node, Part, Place, Rec, Row, Seen, Station, Tale, Turn, TurnSaid, by_client, grown, kind_of, letter, letters_of, rows_of, seen_in, seen_step, spelled_message, stands, tale_at, tale_of, tale_step, told_on, untold, with_station}
 use Rattle.lard_law_connections.specs.LimitsCounts.{BackCounts, BodyCounts, IsWithinStream, FrontCounts, CountsWhatWasServed, LetterCounts, LetterCountsOn, Served, served_by_tale}
 use Rattle.lard_law_connections.proofs.LimitsRows.{CountsBy, IsMute, IsMuteSeen, MayStand, after, after_all, clients-mute, counts-append, counts-told, mute-after, mute-counts, outer-mute}
-use Rattle.lard_law_connections.specs.Places.{Head, IsDecided, IsOffered, LetterMay, MaySay, message_head}
-use Rattle.lard_law_connections.proofs.PlacesGrowing.{Grows, decided-grows}
+use Rattle.lard_law_connections.specs.Places.{HasEnded, Head, IsDecided, IsOffered, IsRefusalKnown, LetterMay, MaySay, message_head}
+use Rattle.lard_law_connections.proofs.PlacesGrowing.{Grows, decided-grows, ended-grows}
 use Rattle.lard_law_connections.proofs.PlacesHeads.{decoded-head, head, spelled-some}
 use Rattle.lard_law_connections.proofs.PlacesTurns.{IsPlaced, Owes}
 use Rattle.lard_law_view.proofs.Fine.{IsItsOwn}
@@ -53,19 +53,35 @@ mute-tale c t (Came l ∷ ss) h = mute-tale c t ss h.1
 
 -- ---- packets
 
--- an Offer that was sent counts on, where nothing more was served, or where its node decided
-module _ (stream : ℕ) (w v : Served) (p q : Part) (grows : Grows p q) (old : (v ≡ w) ⊎ ((n e : ℕ) → IsOffered n e p.front.row → IsDecided e (q.nodes n).row)) where
-  offer-on : (n e total : ℕ) → MaySay p Front (Node n) (Some (head kind.Offer e)) → IsDecided e (p.nodes n).row ⊎ IsWithinStream stream w total → IsDecided e (q.nodes n).row ⊎ IsWithinStream stream v total
-  offer-on n e total said h = ⊎_elim
-      (λ (decided : IsDecided e (p.nodes n).row). inl (decided-grows e (p.nodes n).row (q.nodes n).row (grows.nodes n) decided))
-      (λ (counts : IsWithinStream stream w total). ⊎_elim
-      (λ (same : v ≡ w). inr (subst (λ (u : Served). IsWithinStream stream u total) (sym same) counts))
-      (λ (all : (n e : ℕ) → IsOffered n e p.front.row → IsDecided e (q.nodes n).row). inl (⊎_elim
-      (λ (decided : IsDecided e (p.nodes n).row). decided-grows e (p.nodes n).row (q.nodes n).row (grows.nodes n) decided)
-      (λ (offered : IsOffered n e p.front.row). all n e offered) said))
-      old) h
+-- the node has decided an Offer of this epoch, or the front end is past it
+abbrev pub IsOfferPast : Part → ℕ → ℕ → Type 0
+IsOfferPast p n e = IsDecided e (p.nodes n).row ⊎ HasEnded e p.front.row
 
-  body-on : (n e : ℕ) (b : Body) → MaySay p Front (Node n) (Some (head (kind_of b) e)) → BodyCounts stream w e (p.nodes n).row b → BodyCounts stream v e (q.nodes n).row b
+-- an Offer that was sent counts on, where nothing more was served, or where its node decided or the front end is past it
+module _ (stream : ℕ) (w v : Served) (p q : Part) (grows : Grows p q) (old : (v ≡ w) ⊎ ((n e : ℕ) → IsOffered n e p.front.row → IsOfferPast q n e)) where
+  offer-on : (n e total : ℕ) → MaySay p Front (Node n) (Some (head kind.Offer e))
+      → IsDecided e (p.nodes n).row ⊎ HasEnded e p.front.row ⊎ IsWithinStream stream w total
+      → IsDecided e (q.nodes n).row ⊎ HasEnded e q.front.row ⊎ IsWithinStream stream v total
+  offer-on n e total said h = ⊎_elim decided (⊎_elim (λ (past : HasEnded e p.front.row). ended past) counting) h where
+    Then : Type 0
+    Then = IsDecided e (q.nodes n).row ⊎ HasEnded e q.front.row ⊎ IsWithinStream stream v total
+
+    decided : IsDecided e (p.nodes n).row → Then
+    decided d = inl (decided-grows e (p.nodes n).row (q.nodes n).row (grows.nodes n) d)
+
+    ended : HasEnded e p.front.row → Then
+    ended past = inr (inl (ended-grows q.nodes e p.front.row q.front.row grows.front past))
+
+    counting : IsWithinStream stream w total → Then
+    counting counts = ⊎_elim
+        (λ (same : v ≡ w). inr (inr (subst (λ (u : Served). IsWithinStream stream u total) (sym same) counts)))
+        (λ (all : (n e : ℕ) → IsOffered n e p.front.row → IsOfferPast q n e). ⊎_elim decided
+        (λ (other : IsOffered n e p.front.row ⊎ IsRefusalKnown p n e). ⊎_elim
+        (λ (offered : IsOffered n e p.front.row). ⊎_elim (λ (d : IsDecided e (q.nodes n).row). inl d) (λ (past : HasEnded e q.front.row). inr (inl past)) (all n e offered))
+        (λ (known : IsRefusalKnown p n e). ended known.1) other) said)
+        old
+
+  body-on : (n e : ℕ) (b : Body) → MaySay p Front (Node n) (Some (head (kind_of b) e)) → BodyCounts stream w p n e b → BodyCounts stream v q n e b
   body-on n e (body.Offer parts) said h = offer-on n e (parts.una - 1) said h
   body-on n e _ said h = tt
 
@@ -110,7 +126,7 @@ other-letter stream w p n c e b other m d = go m.body same where
   same : kind_of b ≡ kind_of m.body
   same = ap head_kind (sym (spelled-some x) ∙ decoded-head (spelled_message x) m d)
 
-  go : (a : Body) → kind_of b ≡ kind_of a → BodyCounts stream w m.epoch.0 (p.nodes n).row a
+  go : (a : Body) → kind_of b ≡ kind_of a → BodyCounts stream w p n m.epoch.0 a
   go (body.Offer parts) is = absurd (other is)
   go _ is = tt
 
@@ -130,7 +146,7 @@ module _ (stream : ℕ) (x : Conn) (v : Move) where
     pub notes : CountsBy stream x.c w v.said.notes
     pub front : FrontCounts stream served_then v.part.front.row
     pub nodes : (n : ℕ) → BackCounts stream served_then (v.part.nodes n).row
-    pub old : (served_then ≡ w) ⊎ ((n e : ℕ) → IsOffered n e x.part.front.row → IsDecided e (v.part.nodes n).row)
+    pub old : (served_then ≡ w) ⊎ ((n e : ℕ) → IsOffered n e x.part.front.row → IsOfferPast v.part n e)
     pub letters : Each (LetterCounts stream served_then v.part) (letters_of v)
 
   -- nothing is served, and every place counts as it did

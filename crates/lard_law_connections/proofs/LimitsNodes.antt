@@ -1,15 +1,15 @@
 -- What a node does leaves a connection counted.
-use Rattle.std.proofs.Common.{◌≡◌, ◌≢◌, ◌⊎◌, ◌≤◌, ◌-◌, ℕ, true, List, [], map, Option, Some, None, inr, ⊎_elim, refl, sym, ◌∙◌, subst, arith}
+use Rattle.std.proofs.Common.{◌≡◌, ◌≢◌, ◌⊎◌, ◌≤◌, ◌-◌, ℕ, true, List, [], map, Option, Some, None, inl, inr, ⊎_elim, refl, sym, ◌∙◌, subst, arith}
 use Rattle.lard_law_view.specs.Prelude.{BackRow, Conn, ControlBlock, Ending, EndpointParts, Front, FrontConn, FrontRow, IsNodeEnv, Move, Node, NodeDeed, NodeEnv, NodeGets, NodePart, Offered, Place, Progress, Rec, Seen, ServeEnv, Setting, Stay, Turn, Work, after_timer, again_sent, came_for, come_progress, consuming, goes_on, gone, kept_after, letter, named_records, node_begins, node_does, node_put_back, node_rule, node_saying, offer_answer, on_segment, read_progress, reads_batch, serving, serving_ready_of, serving_settled, spoken, state_of, tagged, taken_sent, tale_at, timed, turn_by, with_work, without, work_of}
 use Rattle.lard_base.specs.declared.place.TimerKind.TheVariants as timer
 use Rattle.lard_law_connections.specs.LimitsCounts.{BackCounts, IsWithinStream, FrontCounts, FrontStageCounts, LetterCounts, Served, served_by_tale}
-use Rattle.lard_law_connections.proofs.LimitsFronts.{past-counts}
+use Rattle.lard_law_connections.proofs.LimitsFronts.{offered-now, past-counts}
 use Rattle.lard_law_connections.proofs.LimitsMoves.{IsLimited, MoveCounts, idle-counts, node-letters}
 use Rattle.lard_law_connections.proofs.LimitsRows.{IsMute, IsMuteSeen, after_all, named-counts}
 use Rattle.lard_law_connections.proofs.LimitsServing.{EndCounts, IsServing, TurnCounts, answered-serving, begins-serving, ended-serving, noted-mute, reads-within, reblocked, settled-counts, spoken-counts}
 use Rattle.lard_law_connections.proofs.LimitsWorking.{IsStart, KeptByServing, batch-state, came-so, goes-so, tagged-so}
-use Rattle.lard_law_connections.specs.Places.{IsComing, IsDecided, IsOffered, IsPast, IsThere, Offers, OthersArePast, Owning, Sits, StageSits, owning}
-use Rattle.lard_law_connections.proofs.PlacesFrontMessages.{came-says}
+use Rattle.lard_law_connections.specs.Places.{HasEnded, IsComing, IsDecided, IsOffered, IsPast, IsThere, Offers, OthersArePast, Owning, Sits, StageSits, owning}
+use Rattle.lard_law_connections.proofs.PlacesFrontMessages.{offer-says}
 use Rattle.lard_law_connections.proofs.PlacesFrontRules.{has-each}
 use Rattle.lard_law_connections.proofs.PlacesNodeRules.{by-node, not-decided, past-held}
 use Rattle.lard_law_connections.proofs.PlacesTurns.{IsPlaced}
@@ -146,7 +146,8 @@ module _ (k : Setting) (x : Conn) (at_place : IsPlaced x) (h : IsLimited k.strea
           nodes = put-each nodes n q (λ m r. BackCounts k.stream then r.row) (row-counts then part work given.0 ends) (λ m other. it.others then m other);
           old = inr (λ m d offered.
               let o = it.offered m d offered in
-              subst (λ (j : ℕ). IsDecided d (node_put_back nodes n q j).row) (sym o.0) (subst (λ (r : NodePart). IsDecided d r.row) (sym (put-same nodes n q)) (row-decided part work given.0 d o.1)));
+              inl (subst (λ (j : ℕ). IsDecided d (node_put_back nodes n q j).row) (sym o.0)
+                  (subst (λ (r : NodePart). IsDecided d r.row) (sym (put-same nodes n q)) (row-decided part work given.0 d o.1))));
           letters = Each-append (LetterCounts k.stream then v.part) (map (letter (Node n)) given.1.segments) (map (letter (Node n)) (turn_by env before work given).messages)
               (node-letters k.stream then v.part n given.1.segments) (node-letters k.stream then v.part n (turn_by env before work given).messages);
         }
@@ -182,14 +183,15 @@ module _ (k : Setting) (x : Conn) (at_place : IsPlaced x) (h : IsLimited k.strea
     -- that the node has not decided: it was offered to it, and counts what was served
     abbrev Counted : NodeGets → Type 0
     Counted (Offered parts) =
-        (IsDecided env.epoch ours.row ⊎ IsOffered n env.epoch x.part.front.row) × (IsDecided env.epoch ours.row ⊎ IsWithinStream k.stream w (parts.una - 1))
+        (IsDecided env.epoch ours.row ⊎ IsOffered n env.epoch x.part.front.row)
+        × (IsDecided env.epoch ours.row ⊎ HasEnded env.epoch x.part.front.row ⊎ IsWithinStream k.stream w (parts.una - 1))
     Counted _ = Unit {0}
 
     counted-of : (g : NodeGets) → NodeComes x n epoch heads g → Counted g
     counted-of (Offered parts) c = (
       subst (λ (e : ℕ). IsDecided e ours.row ⊎ IsOffered n e x.part.front.row) (sym is.epoch_is)
-          (came-says x Front (Node n) epoch (body.Offer parts) c.bytes at_place.letters c.was c.spells),
-      subst (λ (e : ℕ). IsDecided e ours.row ⊎ IsWithinStream k.stream w (parts.una - 1)) (sym is.epoch_is)
+          (offer-says x at_place n epoch parts c.bytes c.was c.spells),
+      subst (λ (e : ℕ). IsDecided e ours.row ⊎ HasEnded e x.part.front.row ⊎ IsWithinStream k.stream w (parts.una - 1)) (sym is.epoch_is)
           ((has-each (LetterCounts k.stream w x.part) (record { from = Front; to = Node n; bytes = c.bytes }) x.letters c.was h.counted.letters) _ c.spells),
     )
     counted-of _ c = tt
@@ -201,7 +203,8 @@ module _ (k : Setting) (x : Conn) (at_place : IsPlaced x) (h : IsLimited k.strea
         let offered : IsOffered n env.epoch x.part.front.row = ⊎_elim (λ (d : IsDecided env.epoch ours.row). absurd (no d))
         (λ (o : IsOffered n env.epoch x.part.front.row). o) m.0 in
         let counts : IsWithinStream k.stream w (parts.una - 1) = ⊎_elim (λ (d : IsDecided env.epoch ours.row). absurd (no d))
-        (λ (c : IsWithinStream k.stream w (parts.una - 1)). c) m.1 in
+        (⊎_elim (λ (past : HasEnded env.epoch x.part.front.row). absurd (offered-now x at_place n env.epoch x.part.front.row refl offered past))
+        (λ (c : IsWithinStream k.stream w (parts.una - 1)). c)) m.1 in
         let start : IsServing env.serve w (node_begins env parts).service =
         record { told = (tt, tt); counts = subst (λ (m : ℕ). IsWithinStream m w (parts.una - 1)) (sym is.stream) counts } in
         goes-limited (offered-here x.part.front.row refl offered) ours (taken_sent env) (state_of (reads_batch env true (node_begins env parts)))

@@ -85,10 +85,10 @@ offer-counts stream w part n c e count b h may m d = go m.body refl where
   stands : b.send.una ≡ 1 + b.send.total
   stands = (frozen_stands b h.sound may).una_is
 
-  go : (a : Body) → m.body ≡ a → BodyCounts stream w m.epoch.0 (part.nodes n).row a
+  go : (a : Body) → m.body ≡ a → BodyCounts stream w part n m.epoch.0 a
   go (body.Offer parts) is =
       let most = h.sound.sending.most in
       let una : parts.una ≡ b.send.una = (offer-read c e (parts_of b count) m parts d is).1 (omega (arith, stands, most)) in
       let same : parts.una - 1 ≡ b.send.total = omega (arith, una, stands) in
-      inr (subst (IsWithinStream stream w) (sym same) h.counts)
+      inr (inr (subst (IsWithinStream stream w) (sym same) h.counts))
   go _ is = tt

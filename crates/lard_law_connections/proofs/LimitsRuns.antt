@@ -1,10 +1,12 @@
 -- The reset law in every run.
 use Rattle.std.proofs.Common.{◌≤◌, ◌^◌, ℕ, List, refl, arith}
 use Rattle.lard_law_view.specs.Prelude.{ClientRules, Completed, Config, Conn, FrontRules, IsLaw, MayReset, MayRestOn, Move, Node, NodeGets, NodeRules, OfEach, Rules, Setting, client_begins, client_injects, client_opens, client_rule, conn, grown, inject_seen, nothing_said, packet_seen, setting, stands, with_leaving}
-use Rattle.lard_law_view.proofs.EachFront.{admission, each-front, of-front}
+use Rattle.lard_law_view.proofs.EachFront.{each-front, of-front}
 use Rattle.lard_history.proofs.Each.{Each}
 use Rattle.lard_law_view.proofs.EachClient.{client_seen, each-client, of-client}
+use Rattle.lard_law_connections.specs.Kept.{FrontKeeps}
 use Rattle.lard_law_connections.specs.LimitsLaws.{ConnectionsAreCounted, ResetsAreLawful}
+use Rattle.lard_law_connections.proofs.KeptRuns.{connections-are-kept}
 use Rattle.lard_law_connections.proofs.LimitsFronts.{front-limited}
 use Rattle.lard_law_connections.proofs.LimitsMoves.{IsLimited, MoveCounts, client-counts, move-limited, stands-counts}
 use Rattle.lard_law_connections.proofs.LimitsNodes.{rule-limited}
@@ -21,10 +23,14 @@ use Rattle.lard_law_view.proofs.InSteps.{carried-records}
 use Rattle.lard_law_view.proofs.RowLists.{MayBeSeen}
 use Rattle.lard_law_view.proofs.PlaceTurns.{injects-turn, opens-turn, rule-turn}
 
+-- where it sits is known, and that the front end keeps an Offer while it is on its way
+abbrev IsGiven : Conn → Type 0
+IsGiven x = IsPlaced x × FrontKeeps x.c x.part.front
+
 module _ (k : Setting) (most : k.stream ≤ 2 ^ 30) where
   -- what the move of each rule owes
   abbrev Counting : Conn → Move → Type 0
-  Counting x v = MayRestOn IsPlaced x → IsLimited k.stream x → MoveCounts k.stream x v
+  Counting x v = MayRestOn IsGiven x → IsLimited k.stream x → MoveCounts k.stream x v
 
   clients : ClientRules k Counting
   clients = each-client k Counting (record {
@@ -35,8 +41,8 @@ module _ (k : Setting) (most : k.stream ≤ 2 ^ 30) where
   })
 
   fronts : FrontRules k Counting
-  fronts = each-front k Counting (λ x env heads g is comes m h. front-limited k most x m.sound m.given h heads
-      (of-front x (Each IsMuteSeen) (λ from bytes. (tt, tt)) tt (tt, tt) env heads g comes) env is g (admission x env heads g comes))
+  fronts = each-front k Counting (λ x env heads g is comes m h. front-limited k most x m.sound m.given.0 m.given.1 h heads
+      (of-front x (Each IsMuteSeen) (λ from bytes. (tt, tt)) tt (tt, tt) env heads g comes) env is g comes)
 
   -- the record of a job that was read says nothing of it
   read-first : (x : Conn) (n : ℕ) (g : NodeGets) (v : Move) → MoveCounts k.stream x v → MoveCounts k.stream x (told_first (job_notes x.c n g) v)
@@ -51,7 +57,7 @@ module _ (k : Setting) (most : k.stream ≤ 2 ^ 30) where
   nodes : NodeRules k Counting
   nodes = each-node k Counting (record {
     does = λ x n epoch env heads g is at comes m h. read-first x n g _
-        (rule-limited k x m.given h n epoch env is heads (heads-of IsMuteSeen (λ l. tt) (λ i c. tt) x n epoch heads g comes) g at comes);
+        (rule-limited k x m.given.0 h n epoch env is heads (heads-of IsMuteSeen (λ l. tt) (λ i c. tt) x n epoch heads g comes) g at comes);
     aside = λ x n a may m h. by-aside x n a h;
   })
 
@@ -67,19 +73,20 @@ module _ (k : Setting) (most : k.stream ≤ 2 ^ 30) where
   }
 
   abbrev Owed : Conn → Move → Type 0
-  Owed x v = MayRestOn IsPlaced x → IsPlaced x → Owes x v
+  Owed x v = MayRestOn IsGiven x → IsPlaced x → Owes x v
 
-  limits-law : IsLaw k IsPlaced (IsLimited k.stream)
+  limits-law : IsLaw k IsGiven (IsLimited k.stream)
   limits-law = record {
     begins = λ c. record { counted = record { front = record { bytes = refl; within = omega arith; not_reset = refl }; nodes = λ n. tt; letters = tt }; lawful = tt };
-    moves = weaker k (λ x v. (IsFine x v × Owed x v) × Counting x v) (λ x v. MayRestOn IsPlaced x → IsLimited k.stream x → IsLimited k.stream (grown x v))
+    moves = weaker k (λ x v. (IsFine x v × Owed x v) × Counting x v) (λ x v. MayRestOn IsGiven x → IsLimited k.stream x → IsLimited k.stream (grown x v))
         (λ x v all may h. move-limited k.stream x v (all.1 may h)
-        (record { number = may.number; sound = may.sound; placed = may.given; owes = all.0.1 may may.given; own = (all.0.0 may.number may.sound).0 }) h)
-        (both k (λ x v. IsFine x v × Owed x v) Counting (both k IsFine Owed (fine k) (owing k IsPlaced)) counting);
+        (record { number = may.number; sound = may.sound; placed = may.given.0; owes = all.0.1 may may.given.0; own = (all.0.0 may.number may.sound).0 }) h)
+        (both k (λ x v. IsFine x v × Owed x v) Counting (both k IsFine Owed (fine k) (owing k IsGiven)) counting);
   }
 
 each-limited : (config : Config) (files : List (List ℕ × List ℕ)) → config.stream ≤ 2 ^ 30 → OfEach config files (IsLimited config.stream)
-each-limited config files most = carried config files IsPlaced (IsLimited config.stream) (λ l. limits-law (with_leaving (setting config files) l) most) (each-placed config files)
+each-limited config files most = carried config files IsGiven (IsLimited config.stream) (λ l. limits-law (with_leaving (setting config files) l) most)
+    (λ m r q. (each-placed config files m r q, (connections-are-kept config files m r q).front))
 
 pub connections-counted : ConnectionsAreCounted
 connections-counted config files most m r q = (each-limited config files most m r q).counted

@@ -4,12 +4,13 @@ use Rattle.std.proofs.lemmas.Bool.{cond_both}
 use Rattle.std.proofs.lemmas.Bool.Decides.{nat_tests}
 use Rattle.std.proofs.lemmas.List.Sums.{fold-append, sum_by-le-sum_by}
 use Rattle.std.specs.List.{AllByRecursion, fold}
-use Rattle.lard_law_view.specs.Prelude.{AreAllowed, Call, ClosesNone, Config, Dispatcher, EachMay, Event, Front, FrontState, HasRule, IsCallInRange, IsReached, Machine, MayBeMade, Out, Rec, Tally, after_call, after_calls, clocked, config_check, connections_at, dispatch_begun, front_gave, front_setting, front_step, is_home_of_node, is_node_closed, loads_after, machine_start, machine_step, machine_told, node_closed_step, room_of}
-use Rattle.lard_law_connections.proofs.LineCalls.{StepCalls, step-calls}
+use Rattle.lard_law_view.specs.Prelude.{AreAllowed, Call, ClosesNone, Config, Dispatcher, EachMay, Event, Front, FrontState, HasRule, IsCallInRange, IsReached, Machine, MayBeMade, MayClose, Out, Rec, Tally, after_calls, clocked, config_check, connections_at, dispatch_begun, front_gave, front_setting, front_step, is_home_of_node, is_node_closed, loads_after, machine_start, machine_step, machine_told, node_closed_step, room_of}
+use Rattle.lard_law_connections.proofs.LineCalls.{StepCalls, all-append, allowed-append, calls-append, step-calls}
 use Rattle.lard_law_connections.proofs.LineCharging.{IsBelow, below-same, falls-below, rises-below}
 use Rattle.lard_law_connections.proofs.LineRuns.{step-ordered-so}
 use Rattle.lard_law_connections.proofs.LineSteps.{IsRising}
 use Rattle.lard_law_connections.specs.LineLaws.{ConnectionsStayFew, HasFewConnections, IsNearTheThresholds, IsNotBusy, IsWithinTheRoom, LoadsStayNearTheThresholds, LoadsStayWithinTheRoom, NeverAllBusy, NoneIsClosed, connections_told, greatest_threshold}
+use Rattle.lard_law_connections.proofs.PlacesRuns.{may-come}
 use Rattle.lard_law_connections.proofs.PolicyAsides.{EachFrom, May, may-from}
 use Rattle.lard_law_connections.proofs.Calm.{first_rows, last_rows, told-journal}
 use Rattle.lard_law_connections.proofs.PolicyCounted.{books-are-told, loads-are-charges, reached-counted, standings-are-told}
@@ -17,6 +18,7 @@ use Rattle.lard_law_connections.proofs.Forms.{Clocks, FrontStays, FrontStep, fro
 use Rattle.lard_law_connections.proofs.PolicyNumbers.{IsNumbered, reached-numbered}
 use Rattle.lard_counts.specs.Ledger.{Ledger, blank_ledger, ledger, ledger_step}
 use Rattle.lard_law_connections.specs.PolicyLoads.{load_told}
+use Rattle.lard_law_view.proofs.ByteLists.{each-before, each-behind}
 use Rattle.lard_law_view.proofs.Carried.{IsOn, carried-keep}
 use Rattle.lard_law_view.proofs.Runs.{passes-more}
 use Rattle.lard_dispatch.proofs.Homes.{few-are-high}
@@ -28,29 +30,7 @@ use Rattle.lard_journal.specs.declared.rec.Rec.TheVariants as rec
 use Rattle.lard_loads.specs.Tally as tally
 use Rattle.lard_law_view.proofs.OwnRecords.{IsNoClosing, behind}
 
--- ---- calls behind calls
-
-after-append : (d : Dispatcher) (xs ys : List Call) → after_calls d (xs ++ ys) ≡ after_calls (after_calls d xs) ys
-after-append d [] ys = refl
-after-append d (x ∷ xs) ys = after-append (after_call d x) xs ys
-
-allowed-append : (d : Dispatcher) (xs ys : List Call) → AreAllowed d xs → AreAllowed (after_calls d xs) ys → AreAllowed d (xs ++ ys)
-allowed-append d [] ys h k = k
-allowed-append d (x ∷ xs) ys h k = (h.0, allowed-append (after_call d x) xs ys h.1 k)
-
-all-append : (P : Call → Type 0) (xs ys : List Call) → AllByRecursion P xs → AllByRecursion P ys → AllByRecursion P (xs ++ ys)
-all-append P [] ys h k = k
-all-append P (x ∷ xs) ys h k = (h.0, all-append P xs ys h.1 k)
-
 -- ---- parts of lists
-
-each-behind : (P : Rec → Type 0) (xs ys : List Rec) → Each P (xs ++ ys) → Each P ys
-each-behind P [] ys e = e
-each-behind P (x ∷ xs) ys e = each-behind P xs ys e.1
-
-each-before : (P : Rec → Type 0) (xs ys : List Rec) → Each P (xs ++ ys) → Each P xs
-each-before P [] ys e = tt
-each-before P (x ∷ xs) ys e = (e.0, each-before P xs ys e.1)
 
 pub may-behind : (may : List Rec → Rec → Type 0) (past xs ys : List Rec) → EachMay may past (xs ++ ys) → EachMay may (past ++ xs) ys
 may-behind may past [] ys e = subst (λ (zs : List Rec). EachMay may zs ys) (sym (append-nil past)) e
@@ -137,7 +117,7 @@ module _ (config : Config) (files : List (List ℕ × List ℕ)) (checked : conf
   unfolding machine_told
   moved-calls m e t o s numbered h = record {
     calls = h.calls ++ s.calls;
-    is = s.is ∙ ap (λ (d : Dispatcher). after_calls d s.calls) h.is ∙ sym (after-append (dispatch_begun config) h.calls s.calls);
+    is = s.is ∙ ap (λ (d : Dispatcher). after_calls d s.calls) h.is ∙ sym (calls-append (dispatch_begun config) h.calls s.calls);
     may = record {
       usable = checked;
       allowed = allowed-append (dispatch_begun config) h.calls s.calls h.may.allowed (subst (λ (d : Dispatcher). AreAllowed d s.calls) h.is s.allowed);
@@ -164,8 +144,9 @@ module _ (config : Config) (files : List (List ℕ × List ℕ)) (checked : conf
       (λ (s : FrontStep k e n).
       let given : FrontState × Out = front_step (front_setting k) k.front s.comes in
       let numbered : Each IsNumbered n.journal = reached-numbered config files n (one-more k n e on rule is) in
+      let may : MayClose k.front s.comes = may-come config files k on.reached e s.comes s.came in
       subst (HasCalls config) (sym s.is)
-      (moved-calls k e given.0 given.1 (step-calls (front_setting k) k.front (reached-counted config files checked k on.reached).sound s.comes s.may)
+      (moved-calls k e given.0 given.1 (step-calls (front_setting k) k.front (reached-counted config files checked k on.reached).sound s.comes may)
       (notes-numbered k e given.0 given.1 (subst (λ (x : Machine). Each IsNumbered x.journal) s.is numbered)) h))
       (λ (c : Clocks k e n). same-calls k n adds.0 adds.1 (ap (λ (x : Machine). x.front) c.is ∙ clocked-front k c.ms) h))
       (front-form k n e is))

@@ -9,12 +9,12 @@ use Rattle.lard_law_connections.proofs.LineHolding.{EndsHeld, EndsWaiting, HasRe
 use Rattle.lard_law_connections.proofs.LineSpeaking.{IsSound, IsTold, heard_by, speaks-spoken, timer-spoken, told-on}
 use Rattle.lard_law_connections.proofs.LineStands.{IsAlike, IsSame, Stand, all-same, front-behind, row_step, sends-alike, stand_behind}
 use Rattle.lard_law_connections.specs.Line.{leaves}
-use Rattle.lard_law_view.specs.Prelude.{ControlBlock, Ending, Final, First, FrontConn, FrontDeed, FrontEnv, FrontPart, FrontRest, FrontRow, MayMove, Reading, Rec, Said, SegFault, Service, Turn, after_timer, emitted, front_begun, front_fired, front_gets, front_hears, front_reads, front_rest, hears_at, holds, is_plain_syn, last_words, listening, may_freeze, next_piece, on_segment, placed, serving, serving_settled, settled_by, speaks, spoken, stage_after, tombstone, waits_on}
+use Rattle.lard_law_view.specs.Prelude.{ControlBlock, Ending, Epoch, Final, First, FrontConn, FrontDeed, FrontEnv, FrontPart, FrontRest, FrontRow, MayMove, Reading, Rec, Said, SegFault, Service, Turn, after_timer, emitted, front_begun, front_fired, front_gets, front_hears, front_reads, front_rest, hears_at, holds, is_plain_syn, last_words, listening, may_freeze, next_piece, on_segment, placed, serving, serving_settled, settled_by, speaks, spoken, stage_after, tombstone, waits_on}
 use Rattle.lard_dispatch.specs.declared.dispatch.First.TheVariants as first
 use Rattle.lard_endpoint.proofs.Silence.{emit-none}
 use Rattle.lard_endpoint.proofs.Sound.{on_segment-sound}
 use Rattle.lard_rules.specs.Front.{Drops, Says, Does}
-use Rattle.lard_rules.proofs.FrontCases.{KeptByTimer, fired_before, fired_service, of-stage}
+use Rattle.lard_rules.proofs.FrontCases.{IsAwayWith, KeptByTimer, fired_before, fired_service, of-stage}
 use Rattle.lard_handoff_front.specs.declared.row.FrontConn.TheVariants as stage
 use Rattle.lard_history.proofs.Each.{Each}
 use Rattle.lard_journal.specs.declared.rec.Rec.TheVariants as rec
@@ -27,13 +27,13 @@ pub record Counts (s : Stand) (waits : Bool) (most : ℕ) (inside : Bool) : Type
   pub times : s.times ≤ most
   pub inside_is : s.inside ≡ inside
 
--- Who waits is in the line, and was to wait once; who is offered or moved is admitted; and what is here is held.
+-- Who waits is in the line, and was to wait once since it was admitted; who is offered or moved is admitted; and what is here is held.
 abbrev pub StageStands : Stand → FrontConn → Type 0
 StageStands s (stage.Held b) = Counts s false 0 false × IsHeld s.told b
 StageStands s (stage.Waiting b) = Counts s true 1 false × IsWaiting s.told b
 StageStands s stage.Lent = Counts s false 0 false
-StageStands s (stage.Offering n epoch) = Counts s false 1 true
-StageStands s (stage.Moved n epoch) = Counts s false 1 true
+StageStands s (stage.Offering n epoch) = Counts s false 0 true
+StageStands s (stage.Moved n epoch) = Counts s false 0 true
 StageStands s (stage.Closed last) = Counts s false 1 false
 
 abbrev pub RowStands : Stand → Option FrontRow → Type 0
@@ -47,8 +47,8 @@ stage-alike : (s t : Stand) → IsAlike s t → t.told ≡ s.told → (at : Fron
 stage-alike s t a e (stage.Held b) h = (counts-alike s t false 0 false a h.0, subst (λ (o : Option Said). IsHeld o b) (sym e) h.1)
 stage-alike s t a e (stage.Waiting b) h = (counts-alike s t true 1 false a h.0, subst (λ (o : Option Said). IsWaiting o b) (sym e) h.1)
 stage-alike s t a e stage.Lent h = counts-alike s t false 0 false a h
-stage-alike s t a e (stage.Offering n epoch) h = counts-alike s t false 1 true a h
-stage-alike s t a e (stage.Moved n epoch) h = counts-alike s t false 1 true a h
+stage-alike s t a e (stage.Offering n epoch) h = counts-alike s t false 0 true a h
+stage-alike s t a e (stage.Moved n epoch) h = counts-alike s t false 0 true a h
 stage-alike s t a e (stage.Closed last) h = counts-alike s t false 1 false a h
 
 pub row-alike : (s t : Stand) → IsAlike s t → t.told ≡ s.told → (o : Option FrontRow) → RowStands s o → RowStands t o
@@ -94,6 +94,61 @@ module _ (c : ℕ) (s : Stand) (notes : List Rec) (given : Ending × Turn) where
       (subst (λ (e : Ending). StageStands (record noted { told = heard_by c noted.told given.1.segments }) (stage_after stage.Waiting e)) (sym ends.here)
       (record { waits_is = k.waits_is; times = k.times; inside_is = k.inside_is }, ends.waits))
 
+-- ---- it is placed
+
+-- what was read changes nothing of how it stands behind other notes
+pub read-stands : (c : ℕ) (o : Option Said) (v t : Stand) (first : List Rec) → fold (row_step c) v first ≡ t → (w : Service) → Serves o first w
+    → fold (row_step c) v w.notes ≡ t
+read-stands c o v t first is w serves =
+    ap (fold (row_step c) v) serves.notes_are ∙ fold-append (row_step c) v first serves.read
+    ∙ ap (λ (u : Stand). fold (row_step c) u serves.read) is ∙ all-same c t serves.read (read-same c serves.read serves.notes)
+
+-- It read on: behind the notes it stands as t.
+module _ (env : FrontEnv) (p q : FrontPart) (row : FrontRow) (rest : FrontRest) (v t : Stand) (out : Counts t false 0 false)
+    (w : Service) (noted_is : fold (row_step env.serve.c) v w.notes ≡ t) (ready : IsReady t.told w.block) where
+  abbrev own : ℕ
+  own = env.serve.c
+
+  pub unplaced-stands : DeedStands own v p (holds q row rest (serving_settled env.serve w))
+  unplaced-stands = holds-stands own v w.notes (serving_settled env.serve w)
+      (subst (λ (u : Stand). EndsHeld own u.told w.notes (serving_settled env.serve w)) (sym noted_is) (settled-ends env.serve t.told w ready))
+      (subst (λ (u : Stand). Counts u false 0 false) (sym noted_is) out)
+
+  module _ (path : List ℕ) (may : may_freeze w.block ≡ true) where
+    open_ : w.block.reset ≡ false
+    open_ = go w.block.reset (and_parts (not w.block.recv.discarding) (not w.block.reset)
+        (and_parts _ (not w.block.recv.discarding && not w.block.reset) may).1).1 where
+          go : (t : Bool) → not t ≡ true → t ≡ false
+          go true h = let no : false ≡ true = h in absurd cc
+          go false h = refl
+
+    pub placed-stands : (f : First) → DeedStands own v p (Does (placed env q row rest w path f))
+    placed-stands (first.Go choice) =
+        let last : List Rec = rec.Admitted own ∷ rec.AssignedFirst own (w.count + 1) path choice.node choice.add choice.remove ∷ [] in
+        subst (λ (u : Stand). Counts u false 0 true) (sym (fold-append (row_step own) v w.notes last))
+        (record { waits_is = refl; times = omega arith; inside_is = ap (λ (u : Stand). true) noted_is })
+    placed-stands first.Waits =
+        let z : Service = record w { notes = w.notes ++ rec.Waits own ∷ [] } in
+        let behind : fold (row_step own) v z.notes ≡ record t { waits = true; times = t.times + 1 } =
+        fold-append (row_step own) v w.notes (rec.Waits own ∷ []) ∙ ap (λ (u : Stand). row_step own u (rec.Waits own)) noted_is in
+        waits-stands own v z.notes (spoken env.serve z [])
+        (subst (λ (u : Stand). EndsWaiting own u.told z.notes (spoken env.serve z [])) (sym behind) (spoken-waits env.serve t.told z ready open_ may))
+        (subst (λ (u : Stand). Counts u true 1 false) (sym behind)
+        (record { waits_is = refl; times = let few = out.times in omega (arith, few); inside_is = out.inside_is }))
+
+  settled-stands : (target : Option (List ℕ)) → MayMove w.block target → DeedStands own v p (settled_by env q row rest w target)
+  settled-stands None may = unplaced-stands
+  settled-stands (Some path) may = placed-stands path may (env.first path)
+
+pub away-found : (p : FrontPart) (row : FrontRow) (n : ℕ) (e : Epoch) → IsAwayWith p row n e → p.row ≡ Some row
+away-found p row n e (inl at) = at.0
+away-found p row n e (inr at) = at.0
+
+-- who is away is admitted
+pub away-with : (s : Stand) (p : FrontPart) → RowStands s p.row → (row : FrontRow) (n : ℕ) (e : Epoch) → IsAwayWith p row n e → Counts s false 0 true
+away-with s p h row n e (inl at) = of-stage (RowStands s) p row (stage.Offering n e) at h
+away-with s p h row n e (inr at) = of-stage (RowStands s) p row (stage.Moved n e) at h
+
 -- ---- a segment
 
 -- how it stands once this came
@@ -125,46 +180,12 @@ module _ (env : FrontEnv) (small : env.serve.stream ≤ 2 ^ 30) (number : env.is
       let t : Hears b (is_reset b said) d = segment-hears b said h.open_ in
       let n = h.sound.number in
       record {
-        sound = record { block = on_segment-sound b said h.sound.block; number = omega (arith, t.send.iss, n) };
+        sound = record {
+          block = on_segment-sound b said h.sound.block;
+          number = λ z. let up = t.send.una in let fits = n (omega (arith, up, z)) in omega (arith, t.send.iss, fits);
+        };
         quiet = λ open_. ⊎_elim (λ (e : d.recv ≡ b.recv). inr (told-on s.told b d e t.last h.told_is)) (λ (e : d.owed ≡ true). inl e) t.taken_in;
       }
-
-  -- ---- it is placed
-
-  module _ (v : Stand) (same : IsAlike s v) (told_is : v.told ≡ s.told) (out : Counts v false 0 false) (row : FrontRow) (rest : FrontRest) (w : Service) (serves : Serves s.told w) where
-    noted-is : fold (row_step c) v w.notes ≡ v
-    noted-is = all-same c v w.notes (read-same c w.notes serves.notes)
-
-    unplaced : DeedStands c v p (holds p row rest (serving_settled env.serve w))
-    unplaced = holds-stands c v w.notes (serving_settled env.serve w)
-        (subst (λ (t : Stand). EndsHeld c t.told w.notes (serving_settled env.serve w)) (sym noted-is)
-        (subst (λ (o : Option Said). EndsHeld c o w.notes (serving_settled env.serve w)) (sym told_is) (settled-ends env.serve s.told w serves.ready)))
-        (subst (λ (t : Stand). Counts t false 0 false) (sym noted-is) out)
-
-    module _ (path : List ℕ) (may : may_freeze w.block ≡ true) where
-      open_ : w.block.reset ≡ false
-      open_ = go w.block.reset (and_parts (not w.block.recv.discarding) (not w.block.reset) (and_parts _ (not w.block.recv.discarding && not w.block.reset) may).1).1 where
-        go : (t : Bool) → not t ≡ true → t ≡ false
-        go true h = let no : false ≡ true = h in absurd cc
-        go false h = refl
-
-      placed-stands : (f : First) → DeedStands c v p (Does (placed env p row rest w path f))
-      placed-stands (first.Go choice) =
-          let last : List Rec = rec.Admitted c ∷ rec.AssignedFirst c (w.count + 1) path choice.node choice.add choice.remove ∷ [] in
-          subst (λ (t : Stand). Counts t false 1 true) (sym (fold-append (row_step c) v w.notes last))
-          (record { waits_is = refl; times = omega arith; inside_is = ap (λ (t : Stand). true) noted-is })
-      placed-stands first.Waits =
-          let z : Service = record w { notes = w.notes ++ rec.Waits c ∷ [] } in
-          let behind : fold (row_step c) v z.notes ≡ record v { waits = true; times = v.times + 1 } =
-          fold-append (row_step c) v w.notes (rec.Waits c ∷ []) ∙ ap (λ (t : Stand). row_step c t (rec.Waits c)) noted-is in
-          waits-stands c v z.notes (spoken env.serve z [])
-          (subst (λ (t : Stand). EndsWaiting c t.told z.notes (spoken env.serve z [])) (sym behind)
-          (subst (λ (o : Option Said). EndsWaiting c o z.notes (spoken env.serve z [])) (sym told_is) (spoken-waits env.serve s.told z serves.ready open_ may)))
-          (subst (λ (t : Stand). Counts t true 1 false) (sym behind) (record { waits_is = refl; times = let few = out.times in omega (arith, few); inside_is = out.inside_is }))
-
-    settled-stands : (target : Option (List ℕ)) → MayMove w.block target → DeedStands c v p (settled_by env p row rest w target)
-    settled-stands None may = unplaced
-    settled-stands (Some path) may = placed-stands path may (env.first path)
 
   -- ---- a client begins
 
@@ -175,7 +196,7 @@ module _ (env : FrontEnv) (small : env.serve.stream ≤ 2 ^ 30) (number : env.is
       sending = record { sent = omega arith; queued = omega arith; kept = omega arith; most = omega arith; some_mss = omega arith; small_mss = omega arith };
       same_irs = refl;
     };
-    number = number;
+    number = λ z. number;
   }
 
   begun-loud : (o : Option Said) (said : Said) → emitted (listening said env.iss) ≡ None → IsTold o (listening said env.iss)
@@ -230,16 +251,19 @@ module _ (env : FrontEnv) (small : env.serve.stream ≤ 2 ^ 30) (number : env.is
       let alike : IsAlike s v = came-out s (Ok said) h.0.waits_is in
       let w : Service = serving (on_segment b said).1 (front_rest p.rest).count [] in
       let x : Reading = front_reads env.serve (record { service = w; target = None }) in
-      let read : HasRead s.told env.serve small x = all-read s.told env.serve small w (record { ready = heard-ready b said h.1; notes = tt }) in
-      settled-stands v alike refl (counts-alike s v false 0 false alike h.0) row (front_rest p.rest) x.service read.0 x.target read.1
+      let read : HasRead s.told env.serve small [] x = all-read s.told env.serve small [] w refl (heard-ready b said h.1) in
+      settled-stands env p p row (front_rest p.rest) v v (counts-alike s v false 0 false alike h.0) x.service
+      (read-stands c s.told v v [] refl x.service read.0) read.0.ready x.target read.1
   hears-stands row bytes said (stage.Waiting b) is found h = waiting-hears row said b h
   hears-stands row bytes said stage.Lent is found h = still (counts-alike s (came_so s (Ok said)) false 0 false (came-out s (Ok said) h.waits_is) h) where
     still : StageStands (came_so s (Ok said)) stage.Lent → RowStands (came_so s (Ok said)) p.row
     still k = subst (RowStands (came_so s (Ok said))) (sym found) (subst (StageStands (came_so s (Ok said))) (sym is) k)
   hears-stands row bytes said (stage.Offering node epoch) is found h =
-      subst (RowStands (came_so s (Ok said))) (sym found) (subst (StageStands (came_so s (Ok said))) (sym is) (counts-alike s (came_so s (Ok said)) false 1 true (came-out s (Ok said) h.waits_is) h))
+      subst (RowStands (came_so s (Ok said))) (sym found) (subst (StageStands (came_so s (Ok said))) (sym is)
+      (counts-alike s (came_so s (Ok said)) false 0 true (came-out s (Ok said) h.waits_is) h))
   hears-stands row bytes said (stage.Moved node epoch) is found h =
-      subst (RowStands (came_so s (Ok said))) (sym found) (subst (StageStands (came_so s (Ok said))) (sym is) (counts-alike s (came_so s (Ok said)) false 1 true (came-out s (Ok said) h.waits_is) h))
+      subst (RowStands (came_so s (Ok said))) (sym found) (subst (StageStands (came_so s (Ok said))) (sym is)
+      (counts-alike s (came_so s (Ok said)) false 0 true (came-out s (Ok said) h.waits_is) h))
   hears-stands row bytes said (stage.Closed last) is found h =
       let o : Option Said = last_words last.reason last said in
       let t : Stand = stand_behind c place.Front (came_so s (Ok said)) (tombstone env.serve o).notes (tombstone env.serve o).segments in

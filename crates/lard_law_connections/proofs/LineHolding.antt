@@ -1,5 +1,5 @@
 -- An endpoint that the front end has, between two steps and while its requests are read.
-use Rattle.std.proofs.Common.{◌≡◌, ◌⊎◌, ℕ, zero, suc, ◌+◌, ◌^◌, ◌≤◌, Bool, true, false, cond, nat_lt, ◌==◌, ◌&&◌, ◌||◌, not, List, [], ◌∷◌, length, Option, Some, None, Ok, inl, inr, ⊎_elim, arith, refl, sym, ap, ◌∙◌, subst}
+use Rattle.std.proofs.Common.{◌≡◌, ◌⊎◌, ℕ, zero, suc, ◌+◌, ◌^◌, ◌≤◌, Bool, true, false, cond, nat_lt, ◌==◌, ◌&&◌, ◌||◌, not, List, [], ◌∷◌, ◌++◌, length, append-nil, append_assoc, Option, Some, None, Ok, inl, inr, ⊎_elim, arith, refl, sym, ap, ◌∙◌, subst}
 use Rattle.std.proofs.lemmas.Bool.{and_parts, cond_both, ltb-false}
 use Rattle.std.proofs.lemmas.Bool.Decides.{nat_tests}
 use Rattle.std.proofs.lemmas.List.{length-drop}
@@ -152,42 +152,55 @@ module _ (o : Option Said) where
 
   -- ---- the loop
 
-  -- the endpoint is ready, and nothing but reading was noted
-  pub record Serves (w : Service) : Type 0 where
+  -- the endpoint is ready, and nothing but reading was noted behind these records
+  pub record Serves (first : List Rec) (w : Service) : Type 0 where
     pub ready : IsReady o w.block
-    pub notes : Each IsRead w.notes
+    pub read : List Rec
+    pub notes_are : w.notes ≡ first ++ read
+    pub notes : Each IsRead read
 
-  module _ (env : ServeEnv) (small : env.stream ≤ 2 ^ 30) where
-    answered-serves : (v : Verdict) (w : Service) → w.block.send.finished ≡ false → Serves w → Serves (answered env Own v w)
+  module _ (env : ServeEnv) (small : env.stream ≤ 2 ^ 30) (first : List Rec) where
+    -- one more record of reading
+    more-serves : (w v : Service) (r : Rec) → IsReady o v.block → v.notes ≡ w.notes ++ r ∷ [] → IsRead r → Serves first w → Serves first v
+    more-serves w v r ready is read h = record {
+      ready = ready;
+      read = h.read ++ r ∷ [];
+      notes_are = is ∙ ap (λ (rs : List Rec). rs ++ r ∷ []) h.notes_are ∙ append_assoc first h.read (r ∷ []);
+      notes = Each-append IsRead h.read (r ∷ []) h.notes (read, tt);
+    }
+
+    -- none
+    so-serves : (w v : Service) → IsReady o v.block → v.notes ≡ w.notes → Serves first w → Serves first v
+    so-serves w v ready is h = record { ready = ready; read = h.read; notes_are = is ∙ h.notes_are; notes = h.notes }
+
+    answered-serves : (v : Verdict) (w : Service) → w.block.send.finished ≡ false → Serves first w → Serves first (answered env Own v w)
     answered-serves v w open_ h =
         let bytes : List ℕ = answer env.files v in
         let total : ℕ = w.block.send.total + length bytes in
-        answered-keeps Serves env Own v w
-        (λ t. record { ready = h.ready; notes = Each-append IsRead w.notes (rec.Reset env.place env.c total ∷ []) h.notes (tt, tt) })
+        answered-keeps (Serves first) env Own v w
+        (λ t. more-serves w _ (rec.Reset env.place env.c total) h.ready refl tt h)
         (λ t. let fits : total ≤ env.stream = ltb-false env.stream total t in
-        record {
-          ready = closed-ready v (queueing w.block bytes) (queueing-ready w.block bytes open_ (omega (arith, fits, small)) h.ready);
-          notes = Each-append IsRead w.notes (rec.Served env.place env.c (w.count + 1) (answer_code env.files v) (length bytes) Own ∷ []) h.notes (tt, tt);
-        })
+        more-serves w _ (rec.Served env.place env.c (w.count + 1) (answer_code env.files v) (length bytes) Own)
+        (closed-ready v (queueing w.block bytes) (queueing-ready w.block bytes open_ (omega (arith, fits, small)) h.ready)) refl tt h)
 
-    consumed-serves : (n : ℕ) (w : Service) → Serves w → Serves (serving_consumed n w)
-    consumed-serves n w h = record { ready = consuming-ready w.block n h.ready; notes = h.notes }
+    consumed-serves : (n : ℕ) (w : Service) → Serves first w → Serves first (serving_consumed n w)
+    consumed-serves n w h = so-serves w (serving_consumed n w) (consuming-ready w.block n h.ready) refl h
 
-    ended-serves : (w : Service) → Serves w → Serves (ended_at_fin w)
-    ended-serves w h = at-fin-keeps Serves w (λ t. record { ready = finishing-ready w.block h.ready; notes = h.notes }) (λ t. h)
+    ended-serves : (w : Service) → Serves first w → Serves first (ended_at_fin w)
+    ended-serves w h = at-fin-keeps (Serves first) w (λ t. so-serves w _ (finishing-ready w.block h.ready) refl h) (λ t. h)
 
     -- while it goes on nothing is to be placed, and what is to be placed may move
     abbrev IsReading : Reading → Type 0
-    IsReading x = Serves x.service × (x.target ≡ None)
+    IsReading x = Serves first x.service × (x.target ≡ None)
 
     abbrev pub HasRead : Reading → Type 0
-    HasRead x = Serves x.service × MayMove x.service.block x.target
+    HasRead x = Serves first x.service × MayMove x.service.block x.target
 
     abbrev ReadOn : Step Reading → Type 0
     ReadOn (loop.More y) = IsReading y
     ReadOn (loop.Done y) = HasRead y
 
-    still : (x : Reading) (w : Service) → Serves w → x.target ≡ None → HasRead (with_service x w)
+    still : (x : Reading) (w : Service) → Serves first w → x.target ≡ None → HasRead (with_service x w)
     still x w h none = (h, subst (MayMove w.block) (sym none) tt)
 
     targeted-reads : (path : List ℕ) (x : Reading) → IsReading x → HasRead (targeted path x)
@@ -221,8 +234,11 @@ module _ (o : Option Said) where
       go (loop.More y) k later = later y k
       go (loop.Done y) k later = k
 
-    pub all-read : (w : Service) → Serves w → HasRead (front_reads env (record { service = w; target = None }))
-    all-read w h = reads-on (reading_left (record { service = w; target = None }) + 1) (record { service = w; target = None }) (h, refl)
+    -- what begins with these records
+    pub all-read : (w : Service) → w.notes ≡ first → IsReady o w.block → HasRead (front_reads env (record { service = w; target = None }))
+    all-read w is ready =
+        let h : Serves first w = record { ready = ready; read = []; notes_are = is ∙ sym (append-nil first); notes = tt } in
+        reads-on (reading_left (record { service = w; target = None }) + 1) (record { service = w; target = None }) (h, refl)
 
 -- ---- the end of a turn
 

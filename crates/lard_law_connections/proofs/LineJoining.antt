@@ -1,12 +1,12 @@
 -- Who joins the line: a connection that the front end holds, which is not in it and not admitted. By what one connection sees.
-use Rattle.std.proofs.Common.{◌≡◌, ℕ, ◌^◌, ◌≤◌, Bool, true, false, cond, List, [], ◌∷◌, ◌++◌, map, Option, Some, None, refl, sym, ap, ◌∙◌, subst, ⊎_elim}
+use Rattle.std.proofs.Common.{◌≡◌, ℕ, ◌+◌, ◌^◌, ◌≤◌, nat_eq, Bool, true, false, cond, List, [], ◌∷◌, ◌++◌, map, Option, Some, None, refl, sym, ap, ◌∙◌, subst, ⊎_elim, arith}
 use Rattle.std.proofs.lemmas.List.Sums.{fold-append}
 use Rattle.std.specs.List.{fold}
-use Rattle.lard_law_view.specs.Prelude.{Came, Client, Conn, EachRow, Front, FrontConn, FrontRow, IsLaw, MayRestOn, Move, Node, Place, Rec, Row, Seen, Setting, Tale, ToCluster, decoded, grown, rows_of, seen_in, seen_step, tale_at, tale_of, tale_step, untold}
+use Rattle.lard_law_view.specs.Prelude.{Came, Client, Conn, EachRow, Epoch, Front, FrontConn, FrontRow, IsLaw, MayRestOn, Move, Node, Place, Rec, Row, Seen, Setting, Tale, ToCluster, decoded, grown, rows_of, seen_in, seen_step, tale_at, tale_of, tale_step, untold}
 use Rattle.lard_law_connections.proofs.LineFronts.{RowStands, StageStands}
 use Rattle.lard_law_connections.proofs.LineHolding.{IsRead}
 use Rattle.lard_law_connections.proofs.LineLaw.{IsLined}
-use Rattle.lard_law_connections.proofs.LineNotes.{Alone, Begins, Ends, Enters, Goes, IsLater, Noted, Reads, Shares, Waits, held_there, is_held}
+use Rattle.lard_law_connections.proofs.LineNotes.{Alone, Answers, Begins, Enters, Goes, IsLater, IsReadOn, Noted, Reads, Returns, Shares, Silent, Waits, epoch_there, held_there, is_held}
 use Rattle.lard_law_connections.proofs.LineStands.{Stand, came_stand, stand_at, stand_step, unknown}
 use Rattle.lard_law_connections.proofs.LineTurns.{IsBare, IsEntry, IsNoted, Notes, noting, was_at}
 use Rattle.lard_law_connections.specs.Line.{leaves}
@@ -18,6 +18,7 @@ use Rattle.lard_law_view.proofs.Saying.{NotedAt}
 use Rattle.lard_handoff_front.specs.declared.row.FrontConn.TheVariants as stage
 use Rattle.lard_history.proofs.Each.{Each, Each-weaker}
 use Rattle.lard_history.proofs.Lifting.{each_row-append}
+use Rattle.lard_history.proofs.Seeing.{same_number}
 use Rattle.lard_journal.specs.declared.rec.Rec.TheVariants as rec
 use Rattle.lard_law_view.proofs.OfKinds.{each-rows, rest_of, rest-outer, rows-are, elsewhere}
 use Rattle.lard_law_view.proofs.RecordKinds.{IsOuter, IsElsewhere, kind_of}
@@ -46,34 +47,80 @@ JoinsFree x = EachRow (MayJoin x.c) [] x.seen
 
 -- ---- what leaves it free
 
+-- It is not in the line, it is admitted or not, as this says, and it is owned so.
+record IsOut (i : Bool) (o : Owning) (s : Stand) (w : Owning) : Type 0 where
+  waits_is : s.waits ≡ false
+  inside_is : s.inside ≡ i
+  own_is : w ≡ o
+
+-- so it was by what it saw
+abbrev WasOut : Bool → Owning → ℕ → List Seen → Type 0
+WasOut i o c past = IsOut i o (fold (stand_step c) unknown past) (owning (tale_of c past))
+
 still-false : (b w : Bool) → w ≡ false → cond b false w ≡ false
 still-false true w h = refl
 still-false false w h = h
 
-came-free : (c : ℕ) (s : Stand) (w : Owning) (to from : Place) (bytes : List ℕ) → IsFree s w → IsFree (came_stand c s to from bytes) w
-came-free c s w Front (Client d) bytes h = record { waits_is = still-false (leaves s.told (decoded bytes c ToCluster)) s.waits h.waits_is; inside_is = h.inside_is; owner_is = h.owner_is; epoch_is = h.epoch_is }
-came-free c s w Front Front bytes h = h
-came-free c s w Front (Node n) bytes h = h
-came-free c s w (Node m) from bytes h = h
-came-free c s w (Client d) from bytes h = h
+module _ (i : Bool) (o : Owning) where
+  packet-out : (c : ℕ) (s : Stand) (w : Owning) (to from : Place) (bytes : List ℕ) → IsOut i o s w → IsOut i o (came_stand c s to from bytes) w
+  packet-out c s w Front (Client d) bytes h =
+      record { waits_is = still-false (leaves s.told (decoded bytes c ToCluster)) s.waits h.waits_is; inside_is = h.inside_is; own_is = h.own_is }
+  packet-out c s w Front Front bytes h = h
+  packet-out c s w Front (Node n) bytes h = h
+  packet-out c s w (Node m) from bytes h = h
+  packet-out c s w (Client d) from bytes h = h
 
-bare-step : (c : ℕ) (s : Stand) (t : Tale) (x : Seen) → IsBare x → IsFree s (owning t) → IsFree (stand_step c s x) (owning (seen_step (tale_step c) t x))
-bare-step c s t (Came l) b h = came-free c s (owning t) l.to l.from l.bytes h
-bare-step c s t (Row (rec.Event i e)) b h = h
-bare-step c s t (Row (rec.Opened d isn iss wnd mss)) b h = h
-bare-step c s t (Row (rec.Injected d)) b h = h
-bare-step c s t (Row (rec.Served place d r code size via)) b h = h
-bare-step c s t (Row (rec.Reset place d total)) b h = h
-bare-step c s t (Row _) b h = absurd b
+  bare-step : (c : ℕ) (s : Stand) (t : Tale) (x : Seen) → IsBare x → IsOut i o s (owning t)
+      → IsOut i o (stand_step c s x) (owning (seen_step (tale_step c) t x))
+  bare-step c s t (Came l) b h = packet-out c s (owning t) l.to l.from l.bytes h
+  bare-step c s t (Row (rec.Event i e)) b h = h
+  bare-step c s t (Row (rec.Opened d isn iss wnd mss)) b h = h
+  bare-step c s t (Row (rec.Injected d)) b h = h
+  bare-step c s t (Row (rec.Served place d r code size via)) b h = h
+  bare-step c s t (Row (rec.Reset place d total)) b h = h
+  bare-step c s t (Row _) b h = absurd b
 
-bare-on : (c : ℕ) (s : Stand) (t : Tale) (xs : List Seen) → Each IsBare xs → IsFree s (owning t) → IsFree (fold (stand_step c) s xs) (owning (fold (seen_step (tale_step c)) t xs))
-bare-on c s t [] e h = h
-bare-on c s t (x ∷ xs) e h = bare-on c (stand_step c s x) (seen_step (tale_step c) t x) xs e.1 (bare-step c s t x e.0 h)
+  bare-on : (c : ℕ) (s : Stand) (t : Tale) (xs : List Seen) → Each IsBare xs → IsOut i o s (owning t)
+      → IsOut i o (fold (stand_step c) s xs) (owning (fold (seen_step (tale_step c)) t xs))
+  bare-on c s t [] e h = h
+  bare-on c s t (x ∷ xs) e h = bare-on c (stand_step c s x) (seen_step (tale_step c) t x) xs e.1 (bare-step c s t x e.0 h)
+
+  bare-out : (c : ℕ) (past xs : List Seen) → Each IsBare xs → WasOut i o c past → WasOut i o c (past ++ xs)
+  bare-out c past xs e h = subst (λ (s : Stand). IsOut i o s (owning (tale_of c (past ++ xs)))) (sym (fold-append (stand_step c) unknown past xs))
+      (subst (λ (t : Tale). IsOut i o (fold (stand_step c) (fold (stand_step c) unknown past) xs) (owning t))
+      (sym (fold-append (seen_step (tale_step c)) untold past xs))
+      (bare-on c (fold (stand_step c) unknown past) (tale_of c past) xs e h))
 
 bare-free : (c : ℕ) (past xs : List Seen) → Each IsBare xs → WasFree c past → WasFree c (past ++ xs)
-bare-free c past xs e h = subst (λ (s : Stand). IsFree s (owning (tale_of c (past ++ xs)))) (sym (fold-append (stand_step c) unknown past xs))
-    (subst (λ (t : Tale). IsFree (fold (stand_step c) (fold (stand_step c) unknown past) xs) (owning t)) (sym (fold-append (seen_step (tale_step c)) untold past xs))
-    (bare-on c (fold (stand_step c) unknown past) (tale_of c past) xs e h))
+bare-free c past xs e h =
+    let o : Owning = owning (tale_of c past) in
+    let k : WasOut false o c (past ++ xs) = bare-out false o c past xs e (record { waits_is = h.waits_is; inside_is = h.inside_is; own_is = refl }) in
+    record {
+      waits_is = k.waits_is;
+      inside_is = k.inside_is;
+      owner_is = ap (λ (w : Owning). w.owner) k.own_is ∙ h.owner_is;
+      epoch_is = subst IsOdd (sym (ap (λ (w : Owning). w.epoch) k.own_is)) h.epoch_is;
+    }
+
+-- one that was admitted is free once the front end took it back
+back-free : (c : ℕ) (past : List Seen) (i : Bool) (o : Owning) (epoch : Epoch) → IsOdd epoch.0 → WasOut i o c past
+    → WasFree c ((past ++ Row (rec.Took Front c epoch) ∷ []) ++ Row (rec.Released c) ∷ [])
+back-free c past i o epoch odd h =
+    let taken : Seen = Row (rec.Took Front c epoch) in
+    let released : Seen = Row (rec.Released c) in
+    let stands : fold (stand_step c) unknown ((past ++ taken ∷ []) ++ released ∷ []) ≡ record (fold (stand_step c) unknown past) { inside = false } =
+    fold-append (stand_step c) unknown (past ++ taken ∷ []) (released ∷ [])
+    ∙ ap (λ (s : Stand). stand_step c s released) (fold-append (stand_step c) unknown past (taken ∷ [])) in
+    let told : tale_of c ((past ++ taken ∷ []) ++ released ∷ []) ≡ seen_step (tale_step c) (seen_step (tale_step c) (tale_of c past) taken) released =
+    fold-append (seen_step (tale_step c)) untold (past ++ taken ∷ []) (released ∷ [])
+    ∙ ap (λ (t : Tale). seen_step (tale_step c) t released) (fold-append (seen_step (tale_step c)) untold past (taken ∷ [])) in
+    let mine : nat_eq c c ≡ true = same_number c in
+    record {
+      waits_is = ap (λ (s : Stand). s.waits) stands ∙ h.waits_is;
+      inside_is = ap (λ (s : Stand). s.inside) stands;
+      owner_is = ap (λ (t : Tale). t.owner) told ∙ ap (λ (b : Bool). cond b (Some Front) (tale_of c past).owner) mine;
+      epoch_is = subst IsOdd (sym (ap (λ (t : Tale). t.epoch) told ∙ ap (λ (b : Bool). cond b epoch.0 (tale_of c past).epoch) mine)) odd;
+    }
 
 -- ---- records that tell nobody to wait
 
@@ -140,22 +187,49 @@ held-free s w x (Some row) stands sits held = go row.stage stands sits.0 held wh
   go (stage.Closed last) k sits held = let no : false ≡ true = held in absurd cc
 
 -- behind what is read it is so yet
+-- Of one that is away the next epoch is odd.
+away-odd : (s : Stand) (w : Owning) (x : Conn) (o : Option FrontRow) → RowStands s o → Sits w x.part.nodes o → s.inside ≡ true → IsOdd (epoch_there o + 1)
+away-odd s w x None stands sits in_ = let no : false ≡ true = sym stands.inside_is ∙ in_ in absurd cc
+away-odd s w x (Some row) stands sits in_ = go row.stage stands sits.0 where
+  go : (at : FrontConn) → StageStands s at → StageSits row.epoch.0 w x.part.nodes at → IsOdd (row.epoch.0 + 1)
+  go (stage.Held b) k sits = let no : false ≡ true = sym k.0.inside_is ∙ in_ in absurd cc
+  go (stage.Waiting b) k sits = let no : false ≡ true = sym k.0.inside_is ∙ in_ in absurd cc
+  go stage.Lent k sits = absurd sits
+  go (stage.Offering node epoch) k sits = let even = sits.0.0 in omega (arith, even)
+  go (stage.Moved node epoch) k sits = let even = sits.0.0 in omega (arith, even)
+  go (stage.Closed last) k sits = let no : false ≡ true = sym k.inside_is ∙ in_ in absurd cc
+
 reads-wait : (c : ℕ) (past : List Seen) (rs : List Rec) → Each IsRead rs → WasFree c past → EachRow (MayJoin c) past (map Row (rs ++ rec.Waits c ∷ []))
 reads-wait c past [] e h = (h, tt)
 reads-wait c past (r ∷ rs) e h =
     (other-may c past r (bare-other r (read-bare r e.0)), reads-wait c (past ++ Row r ∷ []) rs e.1 (bare-free c past (Row r ∷ []) (read-bare r e.0, tt) h))
 
+reads-other : (rs : List Rec) → Each IsRead rs → Each IsNoWait rs
+reads-other rs e = Each-weaker IsRead IsNoWait (λ r k. bare-other r (read-bare r k)) rs e
+
+-- behind what leaves it free it reads on
+on-rows : (c : ℕ) (past : List Seen) (rs : List Rec) → IsReadOn c rs → WasFree c past → EachRow (MayJoin c) past (map Row rs)
+on-rows c past all (Answers rs e) h = other-rows c past rs (reads-other rs e)
+on-rows c past all (Waits rs e) h = reads-wait c past rs e h
+on-rows c past all (Goes rs r path n add remove e) h =
+    rows-behind c past rs (rec.Admitted c ∷ rec.AssignedFirst c r path n add remove ∷ []) (other-rows c past rs (reads-other rs e)) (tt, (tt, tt))
+
 module _ (x : Conn) (lined : IsLined x) (placed : IsPlaced x) where
   noted-rows : (heads : List Seen) → Each IsBare heads → (ns : List Rec) → Noted x.c (was_at x) ns → EachRow (MayJoin x.c) (x.seen ++ heads) (map Row ns)
-  noted-rows heads bare all (Reads rs e) = other-rows x.c (x.seen ++ heads) rs (Each-weaker IsRead IsNoWait (λ r h. bare-other r (read-bare r h)) rs e)
+  noted-rows heads bare all Silent = tt
   noted-rows heads bare all (Begins out) = (tt, tt)
-  noted-rows heads bare all (Waits rs e held) =
-      reads-wait x.c (x.seen ++ heads) rs e (bare-free x.c x.seen heads bare (held-free (stand_at x) (owning (tale_at x)) x x.part.front.row lined.stands placed.sits held))
-  noted-rows heads bare all (Goes rs r path n add remove e out) =
-      rows-behind x.c (x.seen ++ heads) rs (rec.Admitted x.c ∷ rec.AssignedFirst x.c r path n add remove ∷ []) (other-rows x.c (x.seen ++ heads) rs (Each-weaker IsRead IsNoWait (λ r h. bare-other r (read-bare r h)) rs e)) (tt, (tt, tt))
+  noted-rows heads bare all (Reads rs held out on) =
+      on-rows x.c (x.seen ++ heads) rs on (bare-free x.c x.seen heads bare
+      (held-free (stand_at x) (owning (tale_at x)) x x.part.front.row lined.stands placed.sits held))
   noted-rows heads bare all (Shares true rs e) = (tt, other-rows x.c ((x.seen ++ heads) ++ Row (rec.BatchOver x.c) ∷ []) rs (later-other rs e))
   noted-rows heads bare all (Shares false rs e) = other-rows x.c (x.seen ++ heads) rs (later-other rs e)
-  noted-rows heads bare all (Ends epoch in_) = (tt, (tt, tt))
+  noted-rows heads bare all (Returns rs in_ out on) =
+      let o : Owning = owning (tale_at x) in
+      let epoch : Epoch = record { 0 = epoch_there x.part.front.row + 1 } in
+      let odd : IsOdd epoch.0 = away-odd (stand_at x) o x x.part.front.row lined.stands placed.sits in_ in
+      let before : WasOut true o x.c (x.seen ++ heads) = bare-out true o x.c x.seen heads bare (record { waits_is = out; inside_is = in_; own_is = refl }) in
+      let past : List Seen = ((x.seen ++ heads) ++ Row (rec.Took Front x.c epoch) ∷ []) ++ Row (rec.Released x.c) ∷ [] in
+      (tt, (tt, on-rows x.c past rs on (back-free x.c (x.seen ++ heads) true o epoch odd before)))
 
   enters-rows : (past : List Seen) (ns : List Rec) → Enters x.c ns → EachRow (MayJoin x.c) past (map Row ns)
   enters-rows past ns (Alone r path n add remove) = (tt, (tt, tt))

@@ -5,7 +5,7 @@ use Rattle.lard_base.specs.declared.event.Event.TheVariants as event
 use Rattle.lard_law_view.specs.Prelude.{AskedBy, Client, ClientBlock, ClientRules, Conn, EndedBy, Front, FrontConn, FrontEnv, FrontGets, FrontHears, FrontPart, FrontRow, FrontRules, HasRule, IsFrontEnv, IsLaw, IsUnheard, MayRestOn, Move, Node, NodeRules, Place, Rec, Rules, Said, Seen, SegFault, Setting, Station, ToCluster, Turn, TurnSaid, blank_conn, client_begins, client_does, client_injects, client_rule, decoded, front_does, front_gets, front_rule, grown, inject_seen, node_does, nothing_said, packet_seen, stands, tale_at, timer_rows}
 use Rattle.lard_law_view.proofs.EachClient.{client_goes, client_seen, each-client, of-client}
 use Rattle.lard_law_view.proofs.EachFront.{FrontComes, admission, each-front}
-use Rattle.lard_law_connections.proofs.LineFrontMessages.{IsNoSegment, none-drops, rule-stands}
+use Rattle.lard_law_connections.proofs.LineFrontMessages.{IsNoSegment, brings-valid, none-drops, rule-stands}
 use Rattle.lard_law_connections.proofs.LineFronts.{DeedStands, RowStands, StageStands, came-out, came_so, counts-alike, gets-stands}
 use Rattle.lard_law_view.proofs.NodeHeads.{of-aside, of-heads}
 use Rattle.lard_law_connections.proofs.LineStands.{IsAlike, IsElsewhere, Stand, all-same, came_stand, client-behind, node-behind, notes-same, row_step, sends-alike, stand-grown, stand_at, stand_before, stand_behind, stand_step}
@@ -96,8 +96,8 @@ module _ (x : Conn) (v : Move) (own : IsItsOwn x v) (owes : Owes x v) (placed : 
   node-stage n acts e (stage.Held b) sits h = subst (λ (s : Stand). StageStands s (stage.Held b)) (sym (node-silent n acts (ap (λ (w : Owning). w.owner) sits.1.0))) h
   node-stage n acts e (stage.Waiting b) sits h = subst (λ (s : Stand). StageStands s (stage.Waiting b)) (sym (node-silent n acts (ap (λ (w : Owning). w.owner) sits.1.0))) h
   node-stage n acts e stage.Lent sits h = absurd sits
-  node-stage n acts e (stage.Offering m epoch) sits h = counts-alike (stand_at x) (behind (Node n)) false 1 true (node-alike n acts) h
-  node-stage n acts e (stage.Moved m epoch) sits h = counts-alike (stand_at x) (behind (Node n)) false 1 true (node-alike n acts) h
+  node-stage n acts e (stage.Offering m epoch) sits h = counts-alike (stand_at x) (behind (Node n)) false 0 true (node-alike n acts) h
+  node-stage n acts e (stage.Moved m epoch) sits h = counts-alike (stand_at x) (behind (Node n)) false 0 true (node-alike n acts) h
   node-stage n acts e (stage.Closed last) sits h = counts-alike (stand_at x) (behind (Node n)) false 1 false (node-alike n acts) h
 
   node-stands : (n : ℕ) → v.place ≡ Node n → (o : Option FrontRow) → Sits (owning (tale_at x)) x.part.nodes o → RowStands (stand_at x) o → RowStands (behind (Node n)) o
@@ -204,6 +204,9 @@ ignored-alike s o c Front (Node n) bytes none h = h
 ignored-alike s o c (Node m) from bytes none h = h
 ignored-alike s o c (Client d) from bytes none h = h
 
+pub front-small : (k : Setting) → k.stream ≤ 2 ^ 30 → (c : ℕ) (env : FrontEnv) → IsFrontEnv k c env → env.serve.stream ≤ 2 ^ 30
+front-small k small c env is = subst (λ (n : ℕ). n ≤ 2 ^ 30) (sym is.stream) small
+
 module _ (k : Setting) (small : k.stream ≤ 2 ^ 30) where
   aside : (x : Conn) (v : Move) → (IsLined x → IsAside x v) → Lines x v
   aside x v a own owes placed h = aside-lined x v own owes placed (a h) h
@@ -233,12 +236,13 @@ module _ (k : Setting) (small : k.stream ≤ 2 ^ 30) where
       λ i. (sym comes.seen i, sym comes.read i) in
       subst (λ (q : List Seen × Result Said SegFault).
       DeedStands env.serve.c (fold (stand_step x.c) (stand_at x) q.0) x.part.front (front_gets env x.part.front bytes q.1)) came
-      (gets-stands env (subst (λ (n : ℕ). n ≤ 2 ^ 30) (sym is.stream) small)
+      (gets-stands env (front-small k small x.c env is)
       (subst (λ (n : ℕ). n < 2 ^ 32) (sym comes.iss_is) (h.number comes.station comes.there))
       x.part.front (stand_at x) bytes (decoded bytes x.c ToCluster) h.stands)
   front-stands x env heads g is comes h =
       subst (λ (s : Stand). DeedStands env.serve.c s x.part.front (front_rule env x.part.front g)) (sym (seen-stands x env heads g tt comes))
-      (rule-stands env x.part.front (stand_at x) h.stands g tt (admission x env heads g comes))
+      (rule-stands env (front-small k small x.c env is) x.part.front (stand_at x) h.stands g tt (brings-valid x env heads g comes)
+      (admission x env heads g comes))
 
   -- where its client did not open, nothing is done
   unopened-drops : (x : Conn) (env : FrontEnv) (heads : List Seen) (g : FrontGets) → FrontComes x env heads g → IsLined x → x.part.station ≡ None

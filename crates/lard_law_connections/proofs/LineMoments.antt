@@ -5,11 +5,12 @@ use Rattle.std.proofs.lemmas.List.Sums.{fold-append}
 use Rattle.std.specs.List.{fold, list_any}
 use Rattle.lard_law_view.specs.Prelude.{Client, EachMay, Epoch, Event, Front, Has, HasRule, IsViewed, Machine, Move, Node, Out, Packet, Part, Place, Rec, Row, Rules, Seen, ToCluster, clocked, conn, decoded, lose_at, machine_step, machine_told, over_note, own, packet_at, passed, seen_on, setting_of}
 use Rattle.lard_base.specs.declared.event.Event.TheVariants as event
+use Rattle.lard_law_connections.proofs.LineClosed.{Behind, ClosedTwo, IsClosedIn, Nowhere, closed-append, closed-each, one-closed, two-closed}
 use Rattle.lard_law_connections.proofs.LineHolding.{IsRead}
 use Rattle.lard_law_connections.proofs.LineLaw.{IsLined}
-use Rattle.lard_law_connections.proofs.LineNotes.{Alone, Begins, Ends, Enters, Goes, IsLater, Noted, Reads, Shares, Was, Waits}
+use Rattle.lard_law_connections.proofs.LineNotes.{Alone, Answers, Begins, Enters, Goes, IsLater, IsReadOn, Noted, Reads, Returns, Shares, Silent, Waits, Was}
 use Rattle.lard_law_connections.proofs.LineStands.{stand_at, stand_step, unknown}
-use Rattle.lard_law_connections.proofs.LineSteps.{IsNoEntry, IsQuiet, IsRising, allows-quiet, note-quiet, on-quiet, read-quiet, rows-same}
+use Rattle.lard_law_connections.proofs.LineSteps.{IsNoEntry, IsQuiet, IsRising, allows-quiet, in-quiet, on-quiet, own-enters, read-quiet}
 use Rattle.lard_law_connections.proofs.LineTelling.{stands-told}
 use Rattle.lard_law_connections.proofs.LineTurns.{IsEntry, IsNoted, Notes, was_at}
 use Rattle.lard_law_connections.specs.LineLaws.{AdmitsBehind, AdmitsHead, MayPass}
@@ -17,14 +18,15 @@ use Rattle.lard_law_connections.specs.Line.{Line, leaves, line_left_at, line_lef
 use Rattle.lard_law_connections.proofs.Calm.{first-calm, first_rows, gifts-calm, last-calm, last_rows, timers-calm, told-journal}
 use Rattle.lard_law_connections.proofs.PolicyHomes.{less-any}
 use Rattle.lard_law_view.proofs.AnyShape.{IsAct, each-act, one-act, two-act}
-use Rattle.lard_law_view.proofs.Saying.{NotedAt, notes-all}
-use Rattle.lard_law_view.proofs.Shapes.{NamesNobody, ReadsOn, Shapes, both_out, each_out, move_of, with_rest}
+use Rattle.lard_law_view.proofs.Saying.{NamesNobody, NotedAt, NotedIn}
+use Rattle.lard_law_view.proofs.Shapes.{ActsOnTwo, ClosesBehind, ReadsOn, Shapes, both_out, each_out, move_of, with_rest}
+use Rattle.lard_law_view.proofs.ByteLists.{each-before, each-behind}
 use Rattle.lard_law_view.proofs.Stepping.{step-has}
 use Rattle.lard_law_connections.specs.PolicyLaws.{last_record}
 use Rattle.lard_history.proofs.Each.{Each, Each-append, Each-weaker}
 use Rattle.lard_history.proofs.Seeing.{by_number, has-before, has-behind, has-each, other_number, own-append, same_number}
 use Rattle.lard_journal.specs.declared.rec.Rec.TheVariants as rec
-use Rattle.lard_law_view.proofs.OwnRecords.{behind}
+use Rattle.lard_law_view.proofs.OwnRecords.{IsNoClosing, behind}
 
 abbrev has : ℕ → List ℕ → Bool
 has c xs = list_any (nat_eq c) xs
@@ -119,6 +121,11 @@ shares-still : (c : ℕ) (over : Bool) (rs : List Rec) → Each IsLater rs → E
 shares-still c true rs e = (((λ l. refl), (tt, tt)), Each-weaker IsLater (λ r. IsStill r × IsPlain r) later-still rs e)
 shares-still c false rs e = Each-weaker IsLater (λ r. IsStill r × IsPlain r) later-still rs e
 
+read-on : (r : Rec) → IsRead r → ReadsOn r
+read-on (rec.Served place c r code size via) h = tt
+read-on (rec.Reset place c total) h = tt
+read-on _ h = absurd h
+
 reads-still : (rs : List Rec) → Each IsRead rs → Each (λ r. IsStill r × IsPlain r) rs
 reads-still rs e = Each-weaker IsRead (λ r. IsStill r × IsPlain r) (λ r h. (read-still r h, read-plain r h)) rs e
 
@@ -199,6 +206,34 @@ between-lets : (ws : List ℕ) (xs rs ys : List Rec) → Each IsQuiet xs → Eac
 between-lets ws xs rs ys before after h c k =
     between-enters ws xs rs ys before after (h c (has-before (rec.Released c) (xs ++ rs) ys (has-behind (rec.Released c) xs rs k)))
 
+-- ---- a node that is closed: the line does not see it
+
+closed-lets : (ws : List ℕ) (xs ys : List Rec) → IsClosedIn xs ys → LetsIn ws ys → LetsIn ws xs
+closed-lets ws all same (Nowhere rs) lets = lets
+closed-lets ws all more (Behind c epoch n rs) lets =
+    λ d h. go ws (lets d (⊎_elim (λ (e : it ≡ rec.Released d). inl e) (λ (k : Has (rec.Released d) on). inr (inr k)) h)) where
+      it : Rec
+      it = rec.Took Front c epoch
+
+      on : List Rec
+      on = rec.Released c ∷ rs
+
+      go : (ws : List ℕ) → HeadEnters ws (it ∷ rec.Closed n ∷ on) → HeadEnters ws (it ∷ on)
+      go [] k = tt
+      go (w ∷ ws) k = ⊎_elim (λ (e : it ≡ rec.Admitted w). inl e) (λ (q : Has (rec.Admitted w) (rec.Closed n ∷ on)).
+          ⊎_elim (λ (e : rec.Closed n ≡ rec.Admitted w). absurd (cc)) (λ (z : Has (rec.Admitted w) on). inr z) q) k
+
+closed-pass : (End : List ℕ → Option Rec → Type 0) (l : Line) (before : Option Rec) (xs ys : List Rec) → IsClosedIn xs ys → PassTo End l before xs
+    → PassTo End l before ys
+closed-pass End l before all same (Nowhere rs) h = h
+closed-pass End l before all more (Behind c epoch n rs) h = (
+  h.0,
+  (
+    (no-entry l.waits (rec.Closed n) tt, undue l.waits (rec.Took Front c epoch) tt (rec.Closed n)),
+    ((h.1.0.0, undue l.waits (rec.Closed n) tt (rec.Released c)), h.1.1),
+  ),
+)
+
 -- ---- the notes of a turn
 
 -- who is the first of the line, whatever the record before
@@ -233,20 +268,34 @@ enters-head : (c w : ℕ) (ws : List ℕ) (rs last : List Rec) → Each (AdmitsH
 enters-head c w ws [] last e = e.0
 enters-head c w ws (r ∷ rs) last e = enters-head c w ws rs last e.1
 
+has-first : (c w : ℕ) (ws cs : List ℕ) → cs ≡ w ∷ ws → c ≡ w → has c cs ≡ true
+has-first c w ws cs same first = ap (has c) same ∙ ap (λ (k : ℕ). nat_eq c k || has c ws) (sym first) ∙ ap (λ (b : Bool). b || has c ws) (same_number c)
+
+-- if it admits somebody, then connection c
+abbrev Admits : ℕ → Rec → Type 0
+Admits c r = (w : ℕ) → r ≡ rec.Admitted w → c ≡ w
+
+none-admits : (c : ℕ) (r : Rec) → IsNoEntry r → Admits c r
+none-admits c r none w e = absurd (subst IsNoEntry e none)
+
+reads-admit : (c : ℕ) (rs : List Rec) → Each IsRead rs → Each (Admits c) rs
+reads-admit c rs e = Each-weaker IsRead (Admits c) (λ r h. none-admits c r (read-plain r h).0) rs e
+
+-- so it is where c reads on
+on-admits : (c : ℕ) (rs : List Rec) → IsReadOn c rs → Each (Admits c) rs
+on-admits c all (Answers rs e) = reads-admit c rs e
+on-admits c all (Waits rs e) = Each-append (Admits c) rs (rec.Waits c ∷ []) (reads-admit c rs e) (none-admits c (rec.Waits c) tt, tt)
+on-admits c all (Goes rs r path n add remove e) =
+    let it : Rec = rec.AssignedFirst c r path n add remove in
+    Each-append (Admits c) rs (rec.Admitted c ∷ it ∷ []) (reads-admit c rs e) ((λ w same. cc), (none-admits c it tt, tt))
+
 module _ (L : List ℕ) (l : Line) (less : IsLess l.waits L) where
-  -- of a connection that stood so, by the line before the step
-  noted-pass : (c : ℕ) (s : Was) → has c L ≡ s.waits → (rs : List Rec) → Noted c s rs → Each (AdmitsHead L) rs → LetsIn L rs → Pass l rs
-  noted-pass c s is all (Reads rs e) heads lets = plain-pass l rs (Each-weaker IsRead IsPlain read-plain rs e)
-  noted-pass c s is all (Begins out) heads lets = plain-pass l (rec.Took Front c (record { 0 = 1 }) ∷ []) ((tt, tt), tt)
-  noted-pass c s is all (Waits rs e held) heads lets = plain-pass l (rs ++ rec.Waits c ∷ []) (Each-append IsPlain rs (rec.Waits c ∷ []) (Each-weaker IsRead IsPlain read-plain rs e) ((tt, tt), tt))
-  noted-pass c s is all (Shares over rs e) heads lets = plain-pass l (over_note c over ++ rs) (Each-weaker (λ r. IsStill r × IsPlain r) IsPlain (λ r h. h.1) (over_note c over ++ rs) (shares-still c over rs e))
-  noted-pass c s is all (Ends epoch in_) heads lets = release-pass IsSettled c epoch l (subst (λ (ws : List ℕ). IsSettled ws (Some (rec.Released c))) (sym (none-less l.waits (subst (IsLess l.waits) (nobody-left L (lets c (inr (inl refl)))) less))) (λ r. tt))
-    where
-      -- none of the line is let in, so nobody waits
-      nobody-left : (K : List ℕ) → HeadEnters K (rec.Took Front c epoch ∷ rec.Released c ∷ []) → K ≡ []
-      nobody-left [] h = refl
-      nobody-left (w ∷ ws) h = ⊎_elim (λ (e : rec.Took Front c epoch ≡ rec.Admitted w). absurd (cc)) (λ k. ⊎_elim (λ (e : rec.Released c ≡ rec.Admitted w). absurd (cc)) (λ none. absurd none) k) h
-  noted-pass c s is all (Goes rs r path n add remove e out) heads lets = still-then IsSettled l rs last (reads-still rs e) (λ before settled. (
+  -- one that is not in the line reads on
+  on-pass : (c : ℕ) → has c L ≡ false → (rs : List Rec) → IsReadOn c rs → Each (AdmitsHead L) rs → Pass l rs
+  on-pass c out all (Answers rs e) heads = plain-pass l rs (Each-weaker IsRead IsPlain read-plain rs e)
+  on-pass c out all (Waits rs e) heads =
+      plain-pass l (rs ++ rec.Waits c ∷ []) (Each-append IsPlain rs (rec.Waits c ∷ []) (Each-weaker IsRead IsPlain read-plain rs e) ((tt, tt), tt))
+  on-pass c out all (Goes rs r path n add remove e) heads = still-then IsSettled l rs last (reads-still rs e) (λ before settled. (
     (empty L refl, settled (rec.Admitted c)),
     plain-pass (line_step l (rec.Admitted c)) (rec.AssignedFirst c r path n add remove ∷ []) ((tt, tt), tt) (Some (rec.Admitted c)) (undue (line_step l (rec.Admitted c)).waits (rec.Admitted c) tt),
   )) where
@@ -258,8 +307,34 @@ module _ (L : List ℕ) (l : Line) (less : IsLess l.waits L) where
     empty [] same = subst (λ (cs : List ℕ). AdmitsHead cs (rec.Admitted c)) (sym (none-less l.waits (subst (IsLess l.waits) same less))) tt
     empty (w ∷ ws) same =
         let first : c ≡ w = enters-head c w ws rs (rec.AssignedFirst c r path n add remove ∷ []) (subst (λ (K : List ℕ). Each (AdmitsHead K) (rs ++ last)) same heads) in
-        let there : has c L ≡ true = ap (has c) same ∙ ap (λ (k : ℕ). nat_eq c k || has c ws) (sym first) ∙ ap (λ (b : Bool). b || has c ws) (same_number c) in
-        let no : true ≡ false = sym there ∙ is ∙ out in absurd cc
+        let no : true ≡ false = sym (has-first c w ws L same first) ∙ out in absurd cc
+
+  -- where it is taken back and nobody else is let in, nobody waits
+  nobody-waits : (c : ℕ) (epoch : Epoch) → has c L ≡ false → (rs : List Rec) → IsReadOn c rs → HeadEnters L (rec.Took Front c epoch ∷ rec.Released c ∷ rs)
+      → l.waits ≡ []
+  nobody-waits c epoch out rs on enters = none-less l.waits (subst (IsLess l.waits) (go L refl enters) less) where
+    all : List Rec
+    all = rec.Took Front c epoch ∷ rec.Released c ∷ rs
+
+    go : (K : List ℕ) → L ≡ K → HeadEnters K all → K ≡ []
+    go [] same h = refl
+    go (w ∷ ws) same h =
+        let admits : Each (Admits c) all = (none-admits c (rec.Took Front c epoch) tt, (none-admits c (rec.Released c) tt, on-admits c rs on)) in
+        let no : true ≡ false = sym (has-first c w ws L same (has-each (rec.Admitted w) (Admits c) all h admits w refl)) ∙ out in absurd cc
+
+  -- of a connection that stood so, by the line before the step
+  noted-pass : (c : ℕ) (s : Was) → has c L ≡ s.waits → (rs : List Rec) → Noted c s rs → Each (AdmitsHead L) rs → LetsIn L rs → Pass l rs
+  noted-pass c s is all Silent heads lets = plain-pass l [] tt
+  noted-pass c s is all (Begins out) heads lets = plain-pass l (rec.Took Front c (record { 0 = 1 }) ∷ []) ((tt, tt), tt)
+  noted-pass c s is all (Reads rs held out on) heads lets = on-pass c (is ∙ out) rs on heads
+  noted-pass c s is all (Shares over rs e) heads lets = plain-pass l (over_note c over ++ rs)
+      (Each-weaker (λ r. IsStill r × IsPlain r) IsPlain (λ r h. h.1) (over_note c over ++ rs) (shares-still c over rs e))
+  noted-pass c s is all (Returns rs in_ out on) heads lets =
+      let epoch : Epoch = record { 0 = s.epoch + 1 } in
+      let none : l.waits ≡ [] = nobody-waits c epoch (is ∙ out) rs on (lets c (inr (inl refl))) in
+      λ before settled. pass-append IsSettled IsSettled l before (rec.Took Front c epoch ∷ rec.Released c ∷ []) rs
+      (release-pass IsSettled c epoch l (subst (λ (ws : List ℕ). IsSettled ws (Some (rec.Released c))) (sym none) (λ r. tt)) before settled)
+      (λ last end. on-pass c (is ∙ out) rs on heads.1.1 last end)
 
   -- who is in the line, and is seen to stay there, is its first where it is admitted
   first-there : (d : ℕ) (last : List Rec) → has d L ≡ true → has d l.waits ≡ true → Each (AdmitsHead L) (rec.Admitted d ∷ last) → (es : List ℕ) × (l.waits ≡ d ∷ es)
@@ -286,14 +361,19 @@ module _ (L : List ℕ) (l : Line) (less : IsLess l.waits L) where
 
   module _ (c d : ℕ) (s : Was) (apart : d ≢ c) (es : List ℕ) (there : l.waits ≡ d ∷ es) (in_ : has d L ≡ true) (ys : List Rec) (enters : Enters d ys) (then : Each (AdmitsHead L) ys) where
     -- behind the notes of another connection it is the first yet
-    first-keeps : (xs : List Rec) → Noted c s xs → Each (AdmitsHead L) xs → (before : Option Rec) → IsSettled l.waits before → PassTo (IsFirst d) l before xs
-    first-keeps all (Reads rs e) heads = still-keeps d es l rs there (reads-still rs e)
-    first-keeps all (Begins out) heads = still-keeps d es l (rec.Took Front c (record { 0 = 1 }) ∷ []) there (((λ l. refl), (tt, tt)), tt)
-    first-keeps all (Shares over rs e) heads = still-keeps d es l (over_note c over ++ rs) there (shares-still c over rs e)
-    first-keeps all (Ends epoch in_) heads = release-pass (IsFirst d) c epoch l (es, there)
-    first-keeps all (Goes rs r path n add remove e out) heads = absurd (not-first c d apart in_ rs (rec.AssignedFirst c r path n add remove ∷ []) ys heads enters then)
-    first-keeps all (Waits rs e held) heads =
+    on-keeps : (xs : List Rec) → IsReadOn c xs → Each (AdmitsHead L) xs → (before : Option Rec) → IsSettled l.waits before → PassTo (IsFirst d) l before xs
+    on-keeps all (Answers rs e) heads = still-keeps d es l rs there (reads-still rs e)
+    on-keeps all (Goes rs r path n add remove e) heads =
+        absurd (not-first c d apart in_ rs (rec.AssignedFirst c r path n add remove ∷ []) ys heads enters then)
+    on-keeps all (Waits rs e) heads =
         still-then (IsFirst d) l rs (rec.Waits c ∷ []) (reads-still rs e) (λ before settled. ((no-entry l.waits (rec.Waits c) tt, settled (rec.Waits c)), (es ++ c ∷ [], ap (λ (cs : List ℕ). cs ++ c ∷ []) there)))
+
+    -- while d is admitted, c is not: what it notes is read on
+    on-reads : (xs : List Rec) → IsReadOn c xs → Each (AdmitsHead L) xs → Each ReadsOn xs
+    on-reads all (Answers rs e) heads = Each-weaker IsRead ReadsOn read-on rs e
+    on-reads all (Waits rs e) heads = Each-append ReadsOn rs (rec.Waits c ∷ []) (Each-weaker IsRead ReadsOn read-on rs e) (tt, tt)
+    on-reads all (Goes rs r path n add remove e) heads =
+        absurd (not-first c d apart in_ rs (rec.AssignedFirst c r path n add remove ∷ []) ys heads enters then)
 
     alone-keeps : (xs : List Rec) → Enters c xs → Each (AdmitsHead L) xs → (before : Option Rec) → IsSettled l.waits before → PassTo (IsFirst d) l before xs
     alone-keeps xs (Alone r path n add remove) heads = absurd (not-first c d apart in_ [] (rec.AssignedFirst c r path n add remove ∷ []) ys heads enters then)
@@ -318,13 +398,51 @@ module _ (L : List ℕ) (l : Line) (less : IsLess l.waits L) where
     pass-front k at [] zs on h = first-before k at zs on h
     pass-front k at (x ∷ xs) zs on h = (h.0, pass-front (line_step k x) (Some x) xs zs on h.1)
 
-    both-pass : (xs zs : List Rec) → Noted c s (xs ++ zs) ⊎ Enters c (xs ++ zs) → Each (AdmitsHead L) (xs ++ zs) → Each (λ r. ReadsOn r × NotedAt Front c r) zs → Pass l (xs ++ ys ++ zs)
-    both-pass xs zs h heads on at settled =
-        let all : PassTo (IsFirst d) l at (xs ++ zs) =
-        ⊎_elim (λ (k : Noted c s (xs ++ zs)). first-keeps (xs ++ zs) k heads at settled) (λ (k : Enters c (xs ++ zs)). alone-keeps (xs ++ zs) k heads at settled) h in
-        pass-append IsSettled IsSettled l at (xs ++ ys) zs
-        (pass-append (IsFirst d) IsSettled l at xs ys (pass-front l at xs zs on all) (λ last first. entry-pass d (fold line_step l xs) last ys first enters))
-        (plain-pass (fold line_step l (xs ++ ys)) zs (Each-weaker (λ r. ReadsOn r × NotedAt Front c r) IsPlain (λ r k. quiet-plain r (on-quiet r k.0)) zs on))
+    -- of what is read on nothing stands before the admission
+    none-before : (xs zs : List Rec) → Each ReadsOn (xs ++ zs) → Each (λ r. ReadsOn r → ⊥) xs → xs ≡ []
+    none-before [] zs on before = refl
+    none-before (x ∷ xs) zs on before = absurd (before.0 on.0)
+
+    module _ (xs zs : List Rec) (on : Each (λ r. ReadsOn r × NotedAt Front c r) zs) (early : Each (λ r. ReadsOn r → ⊥) xs) where
+      front-of : (all : List Rec) → xs ++ zs ≡ all → (at : Option Rec) → PassTo (IsFirst d) l at all → PassTo (IsFirst d) l at xs
+      front-of all same at h = pass-front l at xs zs on (subst (PassTo (IsFirst d) l at) (sym same) h)
+
+      -- where c is taken back, its release stands directly before the admission
+      back-front : (epoch : Epoch) (rs : List Rec) → IsReadOn c rs → Each (AdmitsHead L) rs → (us : List Rec)
+          → us ++ zs ≡ rec.Took Front c epoch ∷ rec.Released c ∷ rs → Each (λ r. ReadsOn r → ⊥) us → us ≡ rec.Took Front c epoch ∷ rec.Released c ∷ []
+      back-front epoch rs r heads [] same before = absurd (subst (Each (λ r. ReadsOn r × NotedAt Front c r)) same on).0.0
+      back-front epoch rs r heads (x ∷ []) same before =
+          let rest : zs ≡ rec.Released c ∷ rs = cc in
+          absurd (subst (Each (λ r. ReadsOn r × NotedAt Front c r)) rest on).0.0
+      back-front epoch rs r heads (x ∷ y ∷ us) same before =
+          let one : x ≡ rec.Took Front c epoch = cc in
+          let two : y ≡ rec.Released c = cc in
+          let rest : us ++ zs ≡ rs = cc in
+          let none : us ≡ [] = none-before us zs (subst (Each ReadsOn) (sym rest) (on-reads rs r heads)) before.1.1 in
+          λ i. one i ∷ two i ∷ none i
+
+      noted-front : (all : List Rec) → xs ++ zs ≡ all → Noted c s all → Each (AdmitsHead L) all → (at : Option Rec) → IsSettled l.waits at
+          → PassTo (IsFirst d) l at xs
+      noted-front all same Silent heads at settled = front-of [] same at (still-keeps d es l [] there tt at settled)
+      noted-front all same (Begins out) heads at settled =
+          let rs : List Rec = rec.Took Front c (record { 0 = 1 }) ∷ [] in
+          front-of rs same at (still-keeps d es l rs there (((λ l. refl), (tt, tt)), tt) at settled)
+      noted-front all same (Reads rs held out r) heads at settled = front-of rs same at (on-keeps rs r heads at settled)
+      noted-front all same (Shares over rs e) heads at settled =
+          front-of (over_note c over ++ rs) same at (still-keeps d es l (over_note c over ++ rs) there (shares-still c over rs e) at settled)
+      noted-front all same (Returns rs in_ out r) heads at settled =
+          let epoch : Epoch = record { 0 = s.epoch + 1 } in
+          subst (PassTo (IsFirst d) l at) (sym (back-front epoch rs r heads.1.1 xs same early)) (release-pass (IsFirst d) c epoch l (es, there) at settled)
+
+      both-pass : Noted c s (xs ++ zs) ⊎ Enters c (xs ++ zs) → Each (AdmitsHead L) (xs ++ zs) → Pass l (xs ++ ys ++ zs)
+      both-pass h heads at settled =
+          let front : PassTo (IsFirst d) l at xs =
+          ⊎_elim (λ (k : Noted c s (xs ++ zs)). noted-front (xs ++ zs) refl k heads at settled)
+          (λ (k : Enters c (xs ++ zs)). front-of (xs ++ zs) refl at (alone-keeps (xs ++ zs) k heads at settled)) h in
+          pass-append IsSettled IsSettled l at (xs ++ ys) zs
+          (pass-append (IsFirst d) IsSettled l at xs ys front (λ last first. entry-pass d (fold line_step l xs) last ys first enters))
+          (plain-pass (fold line_step l (xs ++ ys)) zs
+          (Each-weaker (λ r. ReadsOn r × NotedAt Front c r) IsPlain (λ r k. quiet-plain r (on-quiet r k.0)) zs on))
 
 -- ---- a step
 
@@ -357,14 +475,6 @@ module _ (m : Machine) (view : IsViewed m) (lined : (q : ℕ) → IsLined (conn 
       ∙ ap (λ (ss : List Seen). own c m.journal ++ ss) none ∙ append-nil (own c m.journal) in
       ap (λ (l : Line). has c l.waits) (sym (fold-append line_step nobody m.journal rows)) ∙ (stands-told c (m.journal ++ rows)).waits_is ∙ ap (λ (ss : List Seen). (fold (stand_step c) unknown ss).waits) seen ∙ sym (stands-told c m.journal).waits_is
 
-  part-before : (P : Rec → Type 0) (xs ys : List Rec) → Each P (xs ++ ys) → Each P xs
-  part-before P [] ys e = tt
-  part-before P (x ∷ xs) ys e = (e.0, part-before P xs ys e.1)
-
-  part-behind : (P : Rec → Type 0) (xs ys : List Rec) → Each P (xs ++ ys) → Each P ys
-  part-behind P [] ys e = e
-  part-behind P (x ∷ xs) ys e = part-behind P xs ys e.1
-
   quiet-pass : (l : Line) (rs : List Rec) → Each IsQuiet rs → Pass l rs
   quiet-pass l rs e = plain-pass l rs (Each-weaker IsQuiet IsPlain quiet-plain rs e)
 
@@ -377,18 +487,22 @@ module _ (m : Machine) (view : IsViewed m) (lined : (q : ℕ) → IsLined (conn 
   told-adds w e place o act notes =
       let first : List Rec = first_rows w e in
       let last : List Rec = last_rows w place o in
+      let Heads : Rec → Type 0 = AdmitsHead (waiting_line m.journal) in
       let quiet : Each IsQuiet first = first-calm IsQuiet allows-quiet w e in
       let still : Each IsQuiet last = last-calm IsQuiet allows-quiet w place o (gifts-calm IsQuiet allows-quiet place o.gave act.gave) (timers-calm IsQuiet allows-quiet place o.timers act.timers) in (
         first ++ o.notes ++ last,
         told-journal w e place o ∙ ap (λ (J : List Rec). J ++ (first ++ o.notes ++ last)) act.put.journal,
         λ lets at settled. pass-append IsSettled IsSettled before at (first ++ o.notes) last
             (pass-append IsSettled IsSettled before at first o.notes (quiet-pass before first quiet at settled)
-            (notes (part-behind (AdmitsHead (waiting_line m.journal)) first o.notes (part-before (AdmitsHead (waiting_line m.journal)) (first ++ o.notes) last lets.0), between-lets (waiting_line m.journal) first o.notes last quiet still lets.1)))
+            (notes (
+              each-behind Heads first o.notes (each-before Heads (first ++ o.notes) last lets.0),
+              between-lets (waiting_line m.journal) first o.notes last quiet still lets.1,
+            )))
             (quiet-pass (fold line_step before (first ++ o.notes)) last still),
       )
 
-  other-pass : (place : Place) (c : ℕ) (l : Line) (rs : List Rec) → (place ≡ Front → ⊥) → Each (NotedAt place c) rs → Pass l rs
-  other-pass place c l rs never e = quiet-pass l rs (Each-weaker (NotedAt place c) IsQuiet (λ r h. note-quiet place c r never h) rs e)
+  other-pass : (place : Place) (c : ℕ) (l : Line) (rs : List Rec) → (place ≡ Front → ⊥) → Each (NotedIn place c) rs → Pass l rs
+  other-pass place c l rs never e = quiet-pass l rs (Each-weaker (NotedIn place c) IsQuiet (λ r h. in-quiet place c r never h) rs e)
 
   -- of one connection
   own-pass : (i : ℕ) (e : Event) (c : ℕ) (v : Move) → seen_on c m.net (rec.Event i e ∷ behind e) ≡ v.heads → IsNoted (conn m c) v → v.place ≡ Front → LetsFirst v.said.notes → Pass (behind_first i e) v.said.notes
@@ -400,31 +514,37 @@ module _ (m : Machine) (view : IsViewed m) (lined : (q : ℕ) → IsLined (conn 
       alone-pass (waiting_line m.journal) (behind_first i e) (first-less before i e) c v.said.notes in_ (unseen-stays c i e (seen ∙ k.none) ∙ in_) lets.0 k.enters)
       (h.noted at)
 
-  notes-pass : (i : ℕ) (e : Event) (place : Place) (c : ℕ) (heads : List Seen) (ns : List Rec) (o : Out) (p : Part) → seen_on c m.net (rec.Event i e ∷ behind e) ≡ heads → Each (NotedAt place c) o.notes
-      → ((net : List Packet) → seen_on c net o.notes ≡ map Row ns) → Notes (conn m c) (move_of place heads ns o p) → LetsFirst o.notes → Pass (behind_first i e) o.notes
-  notes-pass i e Front c heads ns o p first noted seen does lets =
-      let same : o.notes ≡ ns = rows-same o.notes ns (sym (notes-all Front c [] o.notes tt noted) ∙ seen []) in
-      subst (Pass (behind_first i e)) (sym same) (own-pass i e c (move_of Front heads ns o p) first (does (lined c)) refl (subst LetsFirst same lets))
-  notes-pass i e (Node n) c heads ns o p first noted seen does lets = other-pass (Node n) c (behind_first i e) o.notes (λ e. let no : Node n ≡ Front = e in absurd cc) noted
-  notes-pass i e (Client d) c heads ns o p first noted seen does lets = other-pass (Client d) c (behind_first i e) o.notes (λ e. let no : Client d ≡ Front = e in absurd cc) noted
+  notes-pass : (i : ℕ) (e : Event) (place : Place) (c : ℕ) (heads : List Seen) (ns : List Rec) (o : Out) (p : Part)
+      → seen_on c m.net (rec.Event i e ∷ behind e) ≡ heads → Each (NotedIn place c) o.notes → ClosesBehind m e c o.notes ⊎ Each IsNoClosing o.notes → ((net : List Packet) → seen_on c net o.notes ≡ map Row ns)
+      → Notes (conn m c) (move_of place heads ns o p) → LetsFirst o.notes → Pass (behind_first i e) o.notes
+  notes-pass i e Front c heads ns o p first noted closes seen does lets =
+      let k : IsClosedIn ns o.notes = one-closed m e c ns o.notes noted closes seen in
+      λ at settled. closed-pass IsSettled (behind_first i e) at ns o.notes k (own-pass i e c (move_of Front heads ns o p) first (does (lined c)) refl
+      (closed-each (AdmitsHead (waiting_line m.journal)) ns o.notes k lets.0, closed-lets (waiting_line m.journal) ns o.notes k lets.1) at settled)
+  notes-pass i e (Node n) c heads ns o p first noted closes seen does lets =
+      other-pass (Node n) c (behind_first i e) o.notes (λ e. let no : Node n ≡ Front = e in absurd cc) noted
+  notes-pass i e (Client d) c heads ns o p first noted closes seen does lets =
+      other-pass (Client d) c (behind_first i e) o.notes (λ e. let no : Client d ≡ Front = e in absurd cc) noted
 
   -- of two
   pair-pass : (i : ℕ) (e : Event) (c d : ℕ) (v y : Move) (xs zs : List Rec) → d ≢ c → seen_on d m.net (rec.Event i e ∷ behind e) ≡ [] → IsNoted (conn m c) v → IsNoted (conn m d) y → v.place ≡ Front → y.place ≡ Front
-      → y.heads ≡ [] → xs ++ zs ≡ v.said.notes → Each (λ r. ReadsOn r × NotedAt Front c r) zs → LetsFirst (xs ++ y.said.notes ++ zs) → Pass (behind_first i e) (xs ++ y.said.notes ++ zs)
+      → y.heads ≡ [] → xs ++ zs ≡ v.said.notes → Each (λ r. ReadsOn r × NotedAt Front c r) zs → Each (λ r. ReadsOn r → ⊥) xs
+      → Each (AdmitsHead (waiting_line m.journal)) (xs ++ y.said.notes ++ zs) → Pass (behind_first i e) (xs ++ y.said.notes ++ zs)
   unfolding conn
-  pair-pass i e c d v y xs zs apart unseen h k at too none same on lets =
+  pair-pass i e c d v y xs zs apart unseen h k at too none same on early heads =
       let L : List ℕ = waiting_line m.journal in
       let l : Line = behind_first i e in
       let ys : List Rec = y.said.notes in
       let entry : IsEntry (conn m d) y = k.alone too none in
       let in_ : has d L ≡ true = waits-told d ∙ entry.waits in
-      let two : Each (AdmitsHead L) (xs ++ ys) = part-before (AdmitsHead L) (xs ++ ys) zs lets.0 in
-      let mine : Each (AdmitsHead L) (xs ++ zs) = Each-append (AdmitsHead L) xs zs (part-before (AdmitsHead L) xs ys two) (part-behind (AdmitsHead L) (xs ++ ys) zs lets.0) in
-      let its : Each (AdmitsHead L) ys = part-behind (AdmitsHead L) xs ys two in
+      let two : Each (AdmitsHead L) (xs ++ ys) = each-before (AdmitsHead L) (xs ++ ys) zs heads in
+      let mine : Each (AdmitsHead L) (xs ++ zs) =
+      Each-append (AdmitsHead L) xs zs (each-before (AdmitsHead L) xs ys two) (each-behind (AdmitsHead L) (xs ++ ys) zs heads) in
+      let its : Each (AdmitsHead L) ys = each-behind (AdmitsHead L) xs ys two in
       let there : (es : List ℕ) × (l.waits ≡ d ∷ es) = its-there L l d ys (first-less before i e) in_ (unseen-stays d i e unseen ∙ in_) its entry.enters in
-      both-pass L l (first-less before i e) c d (was_at (conn m c)) apart there.0 there.1 in_ ys entry.enters its xs zs
+      both-pass L l (first-less before i e) c d (was_at (conn m c)) apart there.0 there.1 in_ ys entry.enters its xs zs on early
       (subst (λ (rs : List Rec). Noted c (was_at (conn m c)) rs ⊎ Enters c rs) (sym same)
-      (⊎_elim (λ (n : Noted c (was_at (conn m c)) v.said.notes). inl n) (λ (n : IsEntry (conn m c) v). inr n.enters) (h.noted at))) mine on
+      (⊎_elim (λ (n : Noted c (was_at (conn m c)) v.said.notes). inl n) (λ (n : IsEntry (conn m c) v). inr n.enters) (h.noted at))) mine
     where
       its-there : (L : List ℕ) (l : Line) (d : ℕ) (ys : List Rec) → IsLess l.waits L → has d L ≡ true → has d l.waits ≡ true → Each (AdmitsHead L) ys → Enters d ys → (es : List ℕ) × (l.waits ≡ d ∷ es)
       its-there L l d ys less in_ stays heads (Alone r path n add remove) = first-there L l less d (rec.AssignedFirst d r path n add remove ∷ []) in_ stays heads
@@ -433,22 +553,26 @@ module _ (m : Machine) (view : IsViewed m) (lined : (q : ℕ) → IsLined (conn 
   both-each P R [] h k = tt
   both-each P R (r ∷ rs) h k = ((h.0, k.0), both-each P R rs h.1 k.1)
 
-  both-notes : (i : ℕ) (e : Event) (c d : ℕ) (heads : List Seen) (a b z : Out) (ns : List Rec) (p r : Part) → d ≢ c → seen_on d m.net (rec.Event i e ∷ behind e) ≡ [] → Each (NotedAt Front c) a.notes → Each (NotedAt Front c) z.notes
-      → Each ReadsOn z.notes → ((net : List Packet) → seen_on c net (a.notes ++ z.notes) ≡ map Row ns)
+  both-notes : (i : ℕ) (w : Machine) (e : Event) (a b z : Out) (rows : List Rec) (c d : ℕ) (heads : List Seen) (ns : List Rec) (p r : Part)
+      → ActsOnTwo m w e a b z rows c d heads ns p r → seen_on d m.net (rec.Event i e ∷ behind e) ≡ []
       → Notes (conn m c) (move_of Front heads ns (with_rest a z) p) → Notes (conn m d) (move_of Front [] b.notes b r) → LetsFirst (a.notes ++ b.notes ++ z.notes) → Pass (behind_first i e) (a.notes ++ b.notes ++ z.notes)
-  both-notes i e c d heads a b z ns p r apart unseen noted rest on seen does then lets =
-      let all : Each (NotedAt Front c) (a.notes ++ z.notes) = Each-append (NotedAt Front c) a.notes z.notes noted rest in
-      let same : a.notes ++ z.notes ≡ ns = rows-same (a.notes ++ z.notes) ns (sym (notes-all Front c [] (a.notes ++ z.notes) tt all) ∙ seen []) in
-      pair-pass i e c d (move_of Front heads ns (with_rest a z) p) (move_of Front [] b.notes b r) a.notes z.notes apart unseen (does (lined c)) (then (lined d)) refl refl refl same
-      (both-each ReadsOn (NotedAt Front c) z.notes on rest) lets
+  both-notes i w e a b z rows c d heads ns p r act unseen does then lets at settled =
+      let y : Move = move_of Front [] b.notes b r in
+      let k : ClosedTwo c ns a.notes z.notes = two-closed m w e a b z rows c d heads ns p r act (own-enters m d y (then (lined d)) refl refl) in
+      let is : IsClosedIn (k.own ++ b.notes ++ z.notes) (a.notes ++ b.notes ++ z.notes) =
+      closed-append (k.own ++ b.notes) (a.notes ++ b.notes) z.notes (closed-append k.own a.notes b.notes k.is) in
+      closed-pass IsSettled (behind_first i e) at (k.own ++ b.notes ++ z.notes) (a.notes ++ b.notes ++ z.notes) is
+      (pair-pass i e c d (move_of Front heads ns (with_rest a z) p) y k.own z.notes act.apart unseen (does (lined c)) (then (lined d)) refl refl refl k.are
+      (both-each ReadsOn (NotedAt Front c) z.notes act.reads_on k.noted) (closed-each (λ r. ReadsOn r → ⊥) k.own a.notes k.is act.before)
+      (closed-each (AdmitsHead (waiting_line m.journal)) (k.own ++ b.notes ++ z.notes) (a.notes ++ b.notes ++ z.notes) is lets.0) at settled)
 
   shapes-pass : Shapes m Notes (λ e n. Adds n)
   unfolding clocked
   shapes-pass = record {
     one = λ w e place o c heads ns p act does. told-adds w e place o (one-act m w e place o c heads ns p act)
-        (notes-pass (w.events + 1) e place c heads ns o p (act.begins.mine (w.events + 1)) act.said.notes act.notes does);
+        (notes-pass (w.events + 1) e place c heads ns o p (act.begins.mine (w.events + 1)) act.said.notes act.closes act.notes does);
     two = λ w e a b z rows c d heads ns p r act does too. told-adds w e Front (both_out a b z rows) (two-act m w e a b z rows c d heads ns p r act)
-        (both-notes (w.events + 1) e c d heads a b z ns p r act.apart (act.begins.others (w.events + 1) d act.apart) act.said.notes act.said_rest.notes act.reads_on act.notes does too);
+        (both-notes (w.events + 1) w e a b z rows c d heads ns p r act (act.begins.others (w.events + 1) d act.apart) does too);
     each = λ w e place notes xs act made. told-adds w e place (each_out notes xs) (each-act m w e place notes xs act)
         (λ lets. plain-pass (behind_first (w.events + 1) e) notes (Each-weaker (NamesNobody place) IsPlain (nobody-plain place) notes act.nobody));
     nobody = λ k l at there. passed-adds m (event.Deliver k) (rec.Got k ∷ []) refl (((λ i. refl), tt, tt, tt), tt);

@@ -1,30 +1,29 @@
 -- What the front end notes of a connection in a turn, by its rules.
-use Rattle.std.proofs.Common.{◌∙◌, ap, ◌≡◌, ℕ, ◌+◌, ◌^◌, ◌<◌, ◌≤◌, Bool, true, false, List, [], ◌∷◌, ◌++◌, Option, Some, None, Result, Ok, Err, sym, subst}
-use Rattle.lard_law_view.specs.Prelude.{Ask, ControlBlock, Epoch, FirstChoice, FrontAdmits, FrontConn, FrontDeed, FrontEnv, FrontGets, FrontHears, FrontPart, FrontRow, FrontTurn, LaterChoice, Reading, Rec, Said, SegFault, Service, assigned_notes, front_admitted, front_gets, front_reads, front_rest, front_rule, last_words, next_epoch, over_note, serving_settled, tombstone}
+use Rattle.std.proofs.Common.{◌∙◌, ap, ◌≡◌, ℕ, ◌+◌, ◌^◌, ◌<◌, ◌≤◌, Bool, true, false, List, [], ◌∷◌, ◌++◌, append_assoc, Option, Some, None, Result, Ok, Err, refl, sym, subst}
+use Rattle.lard_law_view.specs.Prelude.{Ask, ControlBlock, EndpointParts, FirstChoice, FrontAdmits, FrontConn, FrontDeed, FrontEnv, FrontGets, FrontHears, FrontPart, FrontRow, FrontTurn, IsValidParts, LaterChoice, Place, Reading, Rec, Said, SegFault, ServeEnv, Service, assigned_notes, back_notes, front_admitted, front_gets, front_reads, front_rest, front_rule, given_sent, last_words, over_note, serving_settled, tombstone}
 use Rattle.lard_base.specs.declared.place.Place.TheVariants as place
-use Rattle.lard_law_connections.proofs.LineFrontMessages.{away-counts}
-use Rattle.lard_law_connections.proofs.LineFronts.{RowStands, StageStands, heard-ready}
-use Rattle.lard_law_connections.proofs.LineHolding.{HasRead, IsRead, all-read, settled-ends}
+use Rattle.lard_law_connections.proofs.LineFrontMessages.{BringsValid, adopted-ready, away-counts}
+use Rattle.lard_law_connections.proofs.LineFronts.{Counts, RowStands, away-found, away-with, heard-ready}
+use Rattle.lard_law_connections.proofs.LineHolding.{HasRead, IsRead, IsReady, all-read, settled-ends}
 use Rattle.lard_law_connections.proofs.LineStands.{Stand}
 use Rattle.lard_rules.specs.Front.{Drops, Says, Does}
 use Rattle.lard_handoff_front.specs.declared.row.FrontConn.TheVariants as stage
 use Rattle.lard_history.proofs.Each.{Each}
 use Rattle.lard_journal.specs.declared.rec.Rec.TheVariants as rec
-use Rattle.lard_rules.proofs.FrontCases.{IsAsGiven, front-keeps, KeptByFront, KeptBySegment, IsInStage, of-stage, heard_reading, heard_service, segment-keeps, admitted-keeps}
+use Rattle.lard_rules.proofs.FrontCases.{IsAsGiven, IsInStage, KeptByFront, KeptByReturn, KeptBySegment, admitted-keeps, back_service, front-keeps, heard_service, of-stage, segment-keeps}
 
 -- a later assignment
 abbrev pub IsLater : Rec → Type 0
 IsLater (rec.AssignedLater c r path n add size queue) = Unit {0}
 IsLater _ = ⊥
 
--- What is so of a connection before a turn: whether it is in the line, whether it is admitted, and whether its endpoint is held.
+-- What is so of a connection before a turn: whether it is in the line, whether it is admitted, and, by what the front end keeps of it, whether its
+-- endpoint is held, and its epoch.
 pub record Was : Type 0 where
   pub waits : Bool
   pub inside : Bool
   pub held : Bool
-
-abbrev pub was : Stand → Bool → Was
-was s held = record { waits = s.waits; inside = s.inside; held = held }
+  pub epoch : ℕ
 
 abbrev pub is_held : FrontConn → Bool
 is_held (stage.Held b) = true
@@ -34,66 +33,65 @@ abbrev pub held_there : Option FrontRow → Bool
 held_there None = false
 held_there (Some row) = is_held row.stage
 
--- How the notes of a turn read, on connection c, of which this was so before it.
+abbrev pub epoch_there : Option FrontRow → ℕ
+epoch_there None = 0
+epoch_there (Some row) = row.epoch.0
+
+abbrev pub was : Stand → Option FrontRow → Was
+was s o = record { waits = s.waits; inside = s.inside; held = held_there o; epoch = epoch_there o }
+
+-- How the notes of a connection read that reads on: it is answered, and then it may be told to wait, or be admitted.
+pub data IsReadOn (c : ℕ) : List Rec → Type 0 where
+  Answers : (rs : List Rec) → Each IsRead rs → IsReadOn c rs
+  Waits : (rs : List Rec) → Each IsRead rs → IsReadOn c (rs ++ rec.Waits c ∷ [])
+  Goes : (rs : List Rec) (r : ℕ) (path : List ℕ) (n : ℕ) (add remove : Option ℕ) → Each IsRead rs
+      → IsReadOn c (rs ++ rec.Admitted c ∷ rec.AssignedFirst c r path n add remove ∷ [])
+
+-- How the notes of a turn read, on connection c, of which this was so before it. One that the front end takes back is released, and reads on, where
+-- it did not end.
 pub data Noted (c : ℕ) (s : Was) : List Rec → Type 0 where
-  Reads : (rs : List Rec) → Each IsRead rs → Noted c s rs
+  Silent : Noted c s []
   Begins : s.inside ≡ false → Noted c s (rec.Took place.Front c (record { 0 = 1 }) ∷ [])
-  Waits : (rs : List Rec) → Each IsRead rs → s.held ≡ true → Noted c s (rs ++ rec.Waits c ∷ [])
-  Goes : (rs : List Rec) (r : ℕ) (path : List ℕ) (n : ℕ) (add remove : Option ℕ) → Each IsRead rs → s.waits ≡ false → Noted c s (rs ++ rec.Admitted c ∷ rec.AssignedFirst c r path n add remove ∷ [])
+  Reads : (rs : List Rec) → s.held ≡ true → s.waits ≡ false → IsReadOn c rs → Noted c s rs
   Shares : (over : Bool) (rs : List Rec) → Each IsLater rs → Noted c s (over_note c over ++ rs)
-  Ends : (epoch : Epoch) → s.inside ≡ true → Noted c s (rec.Took place.Front c epoch ∷ rec.Released c ∷ [])
+  Returns : (rs : List Rec) → s.inside ≡ true → s.waits ≡ false → IsReadOn c rs
+      → Noted c s (rec.Took place.Front c (record { 0 = s.epoch + 1 }) ∷ rec.Released c ∷ rs)
 
 abbrev pub DeedNotes : ℕ → Was → FrontDeed → Type 0
 DeedNotes c s Drops = Unit {0}
 DeedNotes c s (Says t) = Noted c s t.notes
 DeedNotes c s (Does x) = Noted c s x.turn.notes
 
-pub none-noted : (c : ℕ) (s : Was) → Noted c s []
-none-noted c s = Reads [] tt
+-- ---- what is read
 
--- ---- a segment
+module _ (serve : ServeEnv) where
+  -- behind these notes
+  abbrev pub Came : List Rec → Service → Type 0
+  Came first w = (rs : List Rec) × (w.notes ≡ first ++ rs) × Each IsRead rs × ((serving_settled serve w).1.notes ≡ w.notes)
 
-module _ (env : FrontEnv) (small : env.serve.stream ≤ 2 ^ 30) (number : env.iss < 2 ^ 32) (p : FrontPart) (s : Stand) where
-  abbrev c : ℕ
-  c = env.serve.c
+  reads-noted : serve.stream ≤ 2 ^ 30 → (o : Option Said) (first : List Rec) (w : Service) → w.notes ≡ first → IsReady o w.block
+      → Came first (front_reads serve (record { service = w; target = None })).service
+  reads-noted small o first w is ready =
+      let x : Reading = front_reads serve (record { service = w; target = None }) in
+      let read : HasRead o serve small first x = all-read o serve small first w is ready in
+      (read.0.read, read.0.notes_are, read.0.notes, (settled-ends serve o x.service read.0.ready).noted)
 
-  -- of one that is held, or not
-  abbrev NotesOf : Bool → FrontDeed → Type 0
-  NotesOf held d = DeedNotes c (was s held) d
+  -- what is so of these notes with what is read on is so behind the reading
+  module _ (first : List Rec) (N : List Rec → Type 0) (on : (rs : List Rec) → IsReadOn serve.c rs → N (first ++ rs)) (w : Service) (came : Came first w) where
+    answers-noted : N (serving_settled serve w).1.notes
+    answers-noted = subst N (sym (came.3 ∙ came.1)) (on came.0 (Answers came.0 came.2))
 
-  -- what was read is noted so, of who is not in the line
-  abbrev Came : Service → Option (List ℕ) → Type 0
-  Came w target = Each IsRead w.notes × ((serving_settled env.serve w).1.notes ≡ w.notes)
+    came-behind : (last : List Rec) → first ++ (came.0 ++ last) ≡ w.notes ++ last
+    came-behind last = sym (ap (λ (rs : List Rec). rs ++ last) came.1 ∙ append_assoc first came.0 last)
 
-  reads-noted : (row : FrontRow) (b : ControlBlock) (said : Said) → StageStands s (stage.Held b) → let x : Reading = front_reads env.serve (heard_reading p b said) in Came x.service x.target
-  reads-noted row b said h =
-      let x : Reading = front_reads env.serve (heard_reading p b said) in
-      let read : HasRead s.told env.serve small x = all-read s.told env.serve small (heard_service p b said) (record { ready = heard-ready env small number p s b said h.1; notes = tt }) in
-      (read.0.notes, (settled-ends env.serve s.told x.service read.0.ready).noted)
+    waits-noted : N (w.notes ++ rec.Waits serve.c ∷ [])
+    waits-noted = subst N (came-behind (rec.Waits serve.c ∷ [])) (on (came.0 ++ rec.Waits serve.c ∷ []) (Waits came.0 came.2))
 
-  words-noted : (held : Bool) (o : Option Said) → Noted c (was s held) (tombstone env.serve o).notes
-  words-noted held None = none-noted c (was s held)
-  words-noted held (Some said) = none-noted c (was s held)
-
-  held-is : (row : FrontRow) (at : FrontConn) → IsInStage p row at → held_there p.row ≡ is_held at
-  held-is row at there = ap held_there there.0 ∙ ap is_held there.1
-
-  by-segment : (bytes : List ℕ) (said : Said) → RowStands s p.row → KeptBySegment env p bytes said Came (NotesOf (held_there p.row))
-  by-segment bytes said h = record {
-    drops = tt;
-    begins = λ none plain. let k : RowStands s None = subst (RowStands s) none h in Begins k.inside_is;
-    reads = λ row b at. reads-noted row b said (of-stage (RowStands s) p row (stage.Held b) at h);
-    holds = λ row b w at came. subst (Noted c (was s (held_there p.row))) (sym came.1) (Reads w.notes came.0);
-    hands = λ row b w path choice at came is. Goes w.notes (w.count + 1) path choice.node choice.add choice.remove came.0 (of-stage (RowStands s) p row (stage.Held b) at h).0.waits_is;
-    waits = λ row b w path at came is. Waits w.notes came.0 (held-is row (stage.Held b) at);
-    stays = λ row b at. none-noted c (was s (held_there p.row));
-    forwards = λ row n e at. none-noted c (was s (held_there p.row));
-    words = λ row last at. words-noted (held_there p.row) (last_words last.reason last said);
-  }
-
-  pub gets-noted : (bytes : List ℕ) (r : Result Said SegFault) → RowStands s p.row → NotesOf (held_there p.row) (front_gets env p bytes r)
-  gets-noted bytes (Err fault) h = tt
-  gets-noted bytes (Ok said) h = segment-keeps env p bytes said Came (NotesOf (held_there p.row)) (by-segment bytes said h)
+    goes-noted : (r : ℕ) (path : List ℕ) (n : ℕ) (add remove : Option ℕ)
+        → N (w.notes ++ rec.Admitted serve.c ∷ rec.AssignedFirst serve.c r path n add remove ∷ [])
+    goes-noted r path n add remove =
+        let last : List Rec = rec.Admitted serve.c ∷ rec.AssignedFirst serve.c r path n add remove ∷ [] in
+        subst N (came-behind last) (on (came.0 ++ last) (Goes came.0 r path n add remove came.2))
 
 -- ---- timers, and messages
 
@@ -108,25 +106,90 @@ IsPlain (FrontHears bytes given) = ⊥
 IsPlain (FrontAdmits choice given) = ⊥
 IsPlain _ = Unit {0}
 
-module _ (env : FrontEnv) (p : FrontPart) (s : Stand) (held : Bool) (h : RowStands s p.row) where
-  abbrev Notes : FrontDeed → Type 0
-  Notes d = DeedNotes env.serve.c (was s held) d
+-- ---- a turn
 
-  by-rules : KeptByFront env p IsPlain (λ w o. Unit {0}) Notes
-  by-rules = record {
+module _ (env : FrontEnv) (small : env.serve.stream ≤ 2 ^ 30) (p : FrontPart) (s : Stand) (h : RowStands s p.row) where
+  abbrev c : ℕ
+  c = env.serve.c
+
+  abbrev IsTurn : List Rec → Type 0
+  IsTurn rs = Noted c (was s p.row) rs
+
+  abbrev Notes : FrontDeed → Type 0
+  Notes d = DeedNotes c (was s p.row) d
+
+  -- ---- a segment
+
+  words-noted : (o : Option Said) → IsTurn (tombstone env.serve o).notes
+  words-noted None = Silent
+  words-noted (Some said) = Silent
+
+  -- of one that is held
+  held-on : (row : FrontRow) (b : ControlBlock) → IsInStage p row (stage.Held b) → (rs : List Rec) → IsReadOn c rs → IsTurn rs
+  held-on row b at rs on = Reads rs (ap held_there at.0 ∙ ap is_held at.1) (of-stage (RowStands s) p row (stage.Held b) at h).0.waits_is on
+
+  by-segment : env.iss < 2 ^ 32 → (bytes : List ℕ) (said : Said) → KeptBySegment env p bytes said (λ w o. Came env.serve [] w) Notes
+  by-segment number bytes said = record {
     drops = tt;
-    hears = λ bytes said m. absurd m;
-    fires = λ m. record { drops = tt; holds = λ row b at. none-noted env.serve.c (was s held); stays = λ row b at. none-noted env.serve.c (was s held); resends = λ row n e at. none-noted env.serve.c (was s held) };
-    takes = λ n epoch m row node e at same. none-noted env.serve.c (was s held);
-    tags_again = λ n epoch ask m rest found there same some. none-noted env.serve.c (was s held);
-    assigns_next = λ n epoch ask m rest found there next. Shares (env.later ask).over (assigned_notes env.serve.c ask rest.assigned ask.paths (env.later ask).choices) (assigned-later env.serve.c ask rest.assigned ask.paths (env.later ask).choices);
-    ends_again = λ n epoch last m row found away again. none-noted env.serve.c (was s held);
-    ends = λ n epoch last m row found away. Ends (next_epoch row) (away-counts env p s h epoch row.stage away (subst (RowStands s) found h)).inside_is;
-    admits = λ choice given m. absurd m;
+    begins = λ none plain. let k : RowStands s None = subst (RowStands s) none h in Begins k.inside_is;
+    reads = λ row b at. reads-noted env.serve small s.told [] (heard_service p b said) refl
+        (heard-ready env small number p s b said (of-stage (RowStands s) p row (stage.Held b) at h).1);
+    holds = λ row b w at came. answers-noted env.serve [] IsTurn (held-on row b at) w came;
+    hands = λ row b w path choice at came is. goes-noted env.serve [] IsTurn (held-on row b at) w came (w.count + 1) path choice.node choice.add choice.remove;
+    waits = λ row b w path at came is. waits-noted env.serve [] IsTurn (held-on row b at) w came;
+    stays = λ row b at. Silent;
+    forwards = λ row n e at. Silent;
+    words = λ row last at. words-noted (last_words last.reason last said);
   }
 
-  pub rule-noted : (g : FrontGets) → IsPlain g → IsAsGiven env p g → Notes (front_rule env p g)
-  rule-noted g plain is = front-keeps env p IsPlain (λ w o. Unit {0}) Notes by-rules g is plain
+  pub gets-noted : env.iss < 2 ^ 32 → (bytes : List ℕ) (r : Result Said SegFault) → Notes (front_gets env p bytes r)
+  gets-noted number bytes (Err fault) = tt
+  gets-noted number bytes (Ok said) = segment-keeps env p bytes said (λ w o. Came env.serve [] w) Notes (by-segment number bytes said)
+
+  -- ---- a connection that is taken back
+
+  back-on : (row : FrontRow) → p.row ≡ Some row → Counts s false 0 true → (rs : List Rec) → IsReadOn c rs → IsTurn (back_notes c row ++ rs)
+  back-on row found away rs on =
+      subst (λ (o : Option FrontRow). Noted c (was s o) (back_notes c row ++ rs)) (sym found) (Returns rs away.inside_is away.waits_is on)
+
+  abbrev CameBack : Service → Option (List ℕ) → Type 0
+  CameBack w o = (row : FrontRow) × (p.row ≡ Some row) × Came env.serve (back_notes c row) w
+
+  by-return : (said : List (Place × List ℕ)) (row : FrontRow) (parts : EndpointParts) → p.row ≡ Some row → IsValidParts parts → Counts s false 0 true
+      → KeptByReturn env p said row parts CameBack Notes
+  by-return said row parts found valid away = record {
+    reads = (row, found, reads-noted env.serve small s.told (back_notes c row) (back_service env row parts) refl (adopted-ready s.told parts valid));
+    holds = λ w came. answers-noted env.serve (back_notes c came.0) IsTurn (back-on came.0 came.1 away) w came.2;
+    hands = λ w path choice came is.
+        goes-noted env.serve (back_notes c came.0) IsTurn (back-on came.0 came.1 away) w came.2 (w.count + 1) path choice.node choice.add choice.remove;
+    waits = λ w path came is. waits-noted env.serve (back_notes c came.0) IsTurn (back-on came.0 came.1 away) w came.2;
+  }
+
+  -- ---- whatever comes but a segment
+
+  abbrev Known : FrontGets → Type 0
+  Known g = IsPlain g × BringsValid p g
+
+  by-rules : KeptByFront env p Known CameBack Notes
+  by-rules = record {
+    drops = tt;
+    hears = λ bytes said m. absurd m.0;
+    fires = λ m. record { drops = tt; holds = λ row b at. Silent; stays = λ row b at. Silent; resends = λ row n e at. Silent };
+    takes = λ n epoch m row node e at same. Silent;
+    tags_again = λ n epoch ask m rest found there same some. Silent;
+    assigns_next = λ n epoch ask m rest found there next. Shares (env.later ask).over (assigned_notes c ask rest.assigned ask.paths (env.later ask).choices)
+        (assigned-later c ask rest.assigned ask.paths (env.later ask).choices);
+    ends_again = λ n epoch last m row found away again. Silent;
+    ends = λ n epoch last m row found away.
+        back-on row found (away-counts env small p s h epoch row.stage away (subst (RowStands s) found h)) [] (Answers [] tt);
+    gives_again = λ n epoch parts m row found past. Silent;
+    returns = λ n epoch given m row parts is. by-return (given_sent c n epoch given) row parts (away-found p row n is.from is.at) (m.1 parts is.parts_are)
+        (away-with s p h row n is.from is.at);
+    admits = λ choice given m. absurd m.0;
+  }
+
+  pub rule-noted : (g : FrontGets) → IsPlain g → BringsValid p g → IsAsGiven env p g → Notes (front_rule env p g)
+  rule-noted g plain valid is = front-keeps env p Known CameBack Notes by-rules g is (plain, valid)
 
 -- ---- an admission
 

@@ -4,6 +4,7 @@ use Rattle.std.proofs.lemmas.List.{length-map}
 use Rattle.std.specs.List.{fold, list_any}
 use Rattle.lard_base.proofs.Usable.{usable}
 use Rattle.lard_law_view.specs.Prelude.{Client, Config, DispatchStanding, EachMay, Event, Front, FrontConn, FrontPart, FrontRest, FrontRow, HasRule, IsReached, IsRowSound, IsStageSound, Kept, Machine, Node, Packet, Place, Rec, Tale, ToCluster, Waiting, config_check, conn, decoded, dispatch_standing, front_part, is_waiting, line_waits, machine_step, own, packet_at, part_of, plain, setting, whose, with_leaving}
+use Rattle.lard_rules.specs.FrontSound.{OpenNodes, open_nodes_of}
 use Rattle.lard_law_connections.proofs.LineFronts.{RowStands, StageStands}
 use Rattle.lard_law_connections.proofs.LineJoining.{IsLinedThere, JoinsFree, MayJoin, joining-law}
 use Rattle.lard_law_connections.proofs.LineLaw.{IsLined, line-law}
@@ -16,7 +17,7 @@ use Rattle.lard_law_connections.proofs.LineTurns.{Notes, noting}
 use Rattle.lard_law_connections.specs.LineLaws.{AdmitsHead, LineIsKept, LineIsOfThoseWhoWait, LineNeedsAFullRoom, LinePasses, MayWait, MustRelease, TakesRelease, WaitsAtAFullRoom, WaitsAtTheFrontEnd, waits_there}
 use Rattle.lard_law_connections.specs.Line.{Line, leaves, line_left_at, line_left_by, waiting_line, line_step, nobody, all_but}
 use Rattle.lard_law_connections.specs.Places.{IsOdd}
-use Rattle.lard_law_connections.proofs.PlacesRuns.{each-placed}
+use Rattle.lard_law_connections.proofs.PlacesRuns.{each-placed, may-come}
 use Rattle.lard_law_connections.proofs.PlacesTurns.{IsPlaced}
 use Rattle.lard_law_connections.proofs.PolicyCounted.{IsCounted, books-are-told, reached-counted, step-ordered}
 use Rattle.lard_law_connections.proofs.PolicyHomes.{stands-so}
@@ -71,15 +72,21 @@ waits-has : (c : ℕ) (ws : List Waiting) → list_any (nat_eq c) (who ws) ≡ l
 waits-has c [] = refl
 waits-has c (w ∷ ws) = λ i. equal-turned c w.c i || waits-has c ws i
 
-stage-waits : (e : ℕ) (rest : Option FrontRest) (kept : List Kept) (at : DispatchStanding) (s : Stand) (conn : FrontConn) → IsStageSound e rest kept at conn → StageStands s conn → (at.waits ≡ s.waits) × (s.times ≤ 1)
-stage-waits e rest kept at s (stage.Held b) h k = let few = k.0.times in (ap (λ (x : DispatchStanding). x.waits) h.2 ∙ sym k.0.waits_is, omega (arith, few))
-stage-waits e rest kept at s (stage.Waiting b) h k = (ap (λ (x : DispatchStanding). x.waits) h.2 ∙ sym k.0.waits_is, k.0.times)
-stage-waits e rest kept at s stage.Lent h k = absurd h
-stage-waits e rest kept at s _ h k = (ap (λ (x : DispatchStanding). x.waits) h ∙ sym k.waits_is, k.times)
+stage-waits : (nodes : OpenNodes) (e : ℕ) (rest : Option FrontRest) (kept : List Kept) (at : DispatchStanding) (s : Stand) (conn : FrontConn)
+    → IsStageSound nodes e rest kept at conn → StageStands s conn → (at.waits ≡ s.waits) × (s.times ≤ 1)
+stage-waits nodes e rest kept at s (stage.Held b) h k = let few = k.0.times in (ap (λ (x : DispatchStanding). x.waits) h.2 ∙ sym k.0.waits_is, omega (arith, few))
+stage-waits nodes e rest kept at s (stage.Waiting b) h k = (ap (λ (x : DispatchStanding). x.waits) h.2 ∙ sym k.0.waits_is, k.0.times)
+stage-waits nodes e rest kept at s stage.Lent h k = absurd h
+stage-waits nodes e rest kept at s (stage.Offering n d) h k =
+    let few = k.times in (ap (λ (x : DispatchStanding). x.waits) h.stands ∙ sym k.waits_is, omega (arith, few))
+stage-waits nodes e rest kept at s (stage.Moved n d) h k =
+    let few = k.times in (ap (λ (x : DispatchStanding). x.waits) h.stands ∙ sym k.waits_is, omega (arith, few))
+stage-waits nodes e rest kept at s (stage.Closed last) h k = (ap (λ (x : DispatchStanding). x.waits) h.1 ∙ sym k.waits_is, k.times)
 
-row-waits : (rest : Option FrontRest) (kept : List Kept) (at : DispatchStanding) (s : Stand) (o : Option FrontRow) → IsRowSound rest kept at o → RowStands s o → (at.waits ≡ s.waits) × (s.times ≤ 1)
-row-waits rest kept at s None h k = let few = k.times in (ap (λ (x : DispatchStanding). x.waits) h.1 ∙ sym k.waits_is, omega (arith, few))
-row-waits rest kept at s (Some row) h k = stage-waits row.epoch.0 rest kept at s row.stage h k
+row-waits : (nodes : OpenNodes) (rest : Option FrontRest) (kept : List Kept) (at : DispatchStanding) (s : Stand) (o : Option FrontRow)
+    → IsRowSound nodes rest kept at o → RowStands s o → (at.waits ≡ s.waits) × (s.times ≤ 1)
+row-waits nodes rest kept at s None h k = let few = k.times in (ap (λ (x : DispatchStanding). x.waits) h.1 ∙ sym k.waits_is, omega (arith, few))
+row-waits nodes rest kept at s (Some row) h k = stage-waits nodes row.epoch.0 rest kept at s row.stage h k
 
 module _ (config : Config) (files : List (List ℕ × List ℕ)) (checked : config_check config ≡ Ok tt) where
   pub each-lined : (m : Machine) → IsReached config files m → (q : ℕ) → IsLined (conn m q)
@@ -101,7 +108,7 @@ module _ (config : Config) (files : List (List ℕ × List ℕ)) (checked : conf
     so : (q : ℕ) → (line_waits Kept q ≡ (fold (stand_step q) unknown (own q m.journal)).waits) × ((fold (stand_step q) unknown (own q m.journal)).times ≤ 1)
     so q =
         let p : FrontPart = front_part m.front q in
-        row-waits p.rest p.kept (dispatch_standing m.front.dispatch q) (fold (stand_step q) unknown (own q m.journal)) p.row (counted.sound.each q) (stood m r q)
+        row-waits (open_nodes_of m.front.dispatch) p.rest p.kept (dispatch_standing m.front.dispatch q) (fold (stand_step q) unknown (own q m.journal)) p.row (counted.sound.each q) (stood m r q)
 
     once : (q : ℕ) → count q (waiting m.journal) ≤ 1
     once q = subst (λ (n : ℕ). n ≤ 1) (sym (stands-told q m.journal).times) (so q).1
@@ -198,7 +205,7 @@ line-passes config files m checked r = pass-may [] m.journal (carried-keep confi
   step : (k n : Machine) (e : Event) → IsOn config files k → PassTo IsSettled nobody None k.journal → HasRule e → machine_step k e ≡ Ok n → PassTo IsSettled nobody None n.journal
   step k n e on h rule is =
       let Kept : List Waiting = k.front.dispatch.books.line in
-      let ordered = step-ordered config k (reached-counted config files checked k on.reached) n e on.view rule is in
+      let ordered = step-ordered config k (reached-counted config files checked k on.reached) n e (may-come config files k on.reached e) on.view rule is in
       let adds = step-pass k on.view (each-lined config files checked k on.reached) (on-rules config files Notes (λ l. noting (with_leaving (setting config files) l) (usable config checked).stream) k on) n e rule is in
       let rows : List Rec = adds.0 in
       let agree : ordered.0 ≡ rows = cancel k.journal ordered.0 rows (sym ordered.1 ∙ adds.1) in

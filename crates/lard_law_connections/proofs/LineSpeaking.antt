@@ -1,9 +1,9 @@
 -- What an endpoint says at the end of its turn: the last segment tells RCV.NXT and the window, and nothing is owed then.
-use Rattle.std.proofs.Common.{◌≡◌, ℕ, zero, suc, ◌+◌, ◌-◌, ◌^◌, ◌<◌, ◌≤◌, Bool, true, false, cond, List, [], ◌∷◌, ◌++◌, length, drop, arith, sym, ap, ◌∙◌, refl, subst}
+use Rattle.std.proofs.Common.{◌≡◌, ℕ, zero, suc, ◌+◌, ◌-◌, ◌^◌, ◌<◌, ◌≤◌, ◌==◌, min, nat_lt, Bool, true, false, cond, List, [], ◌∷◌, ◌++◌, length, drop, arith, sym, ap, ◌∙◌, refl, subst}
 use Rattle.std.specs.Prelude.{Option, Some, None, IfSome, OnSome}
-use Rattle.std.proofs.lemmas.Bool.{cond_both}
+use Rattle.std.proofs.lemmas.Bool.{cond_both, eqb-true}
 use Rattle.std.proofs.lemmas.List.{length-take}
-use Rattle.lard_law_view.specs.Prelude.{Client, ControlBlock, IsControlBlock, IsSendable, Place, Ready, Said, Sending, ServeEnv, ToClient, ack_ready, advanced, after_emit, after_next, after_owed, after_piece, after_resend, after_timer, awaited, decoded, emits, emits_left, emitted, filled, next_piece, owed_ready, owes, own_mss, piece_ready, rcv_nxt, rcv_wnd, ready_of, receive_room, resent_piece, retried, seq_add, speaks, spelled, timed, to_client, told}
+use Rattle.lard_law_view.specs.Prelude.{Client, ControlBlock, IsControlBlock, IsSendable, Place, Ready, Said, Sending, ServeEnv, ToClient, ack_ready, advanced, after_emit, after_next, after_owed, after_piece, after_resend, after_timer, again_fin, again_len, awaited, byte_piece, decoded, emits, emits_left, emitted, filled, may_send, next_fin, next_len, next_piece, owed_ready, owes, own_mss, piece_ready, rcv_nxt, rcv_wnd, ready_of, receive_room, resent_piece, retried, seq_add, speaks, spelled, symbols, syn_piece, timed, to_client, told, unsent_bytes}
 use Rattle.lard_law_connections.proofs.LineHearing.{GoesOn, goes-same, goes-then}
 use Rattle.lard_law_connections.specs.Line.{said_of}
 use Rattle.lard_endpoint.proofs.Ends.{emit-falls}
@@ -15,10 +15,10 @@ use Rattle.lard_law_view.proofs.Pieces.{next-carries, resent-carries}
 use Rattle.lard_law_view.proofs.Speaking.{next-moves, resend-moves}
 use Rattle.lard_law_view.proofs.EndpointSends.{AllTo}
 
--- what holds of every endpoint
+-- What holds of every endpoint: the number with which it begins is told in a SYN alone, so it has to fit only until that is acknowledged.
 pub record IsSound (b : ControlBlock) : Type 0 where
   pub block : IsControlBlock b
-  pub number : b.send.iss < 2 ^ 32
+  pub number : b.send.una ≡ 0 → b.send.iss < 2 ^ 32
 
 -- ---- a segment that leaves
 
@@ -43,12 +43,42 @@ mss-small : (b : Bool) → IfSome (own_mss b) (λ m. m ≤ 1460)
 mss-small true = omega arith
 mss-small false = tt
 
-seq-fits : (b : Bool) (iss n : ℕ) → iss < 2 ^ 32 → cond b iss (seq_add iss n) < 2 ^ 32
-seq-fits true iss n h = h
+seq-fits : (b : Bool) (iss n : ℕ) → (b ≡ true → iss < 2 ^ 32) → cond b iss (seq_add iss n) < 2 ^ 32
+seq-fits true iss n h = h refl
 seq-fits false iss n h = omega arith
 
+-- a SYN is sent, and sent again, only until it is acknowledged
+next-begins : (s : Sending) (p : Piece) → s.una ≤ s.nxt → next_piece s ≡ Some p → p.syn ≡ true → s.una ≡ 0
+next-begins s p sent e = subst Begins e
+    (cond_both (s.nxt == 0) (Some syn_piece) (cond (may_send s) next None) Begins
+    (λ t f. let zero : s.nxt ≡ 0 = eqb-true s.nxt 0 t in omega (arith, zero, sent))
+    (λ t. cond_both (may_send s) next None Begins (λ m f. let no : false ≡ true = f in absurd cc) (λ m. tt))) where
+      Begins : Option Piece → Type 0
+      Begins o = IfSome o (λ q. q.syn ≡ true → s.una ≡ 0)
+
+      next : Option Piece
+      next = Some (byte_piece s (s.nxt - 1) (next_len s) (next_fin s))
+
+again-begins : (s : Sending) (p : Piece) → resent_piece s ≡ Some p → p.syn ≡ true → s.una ≡ 0
+again-begins s p e = subst Begins e
+    (cond_both (s.una == 0) (Some syn_piece) (cond (nat_lt s.una s.nxt) again last) Begins
+    (λ t f. eqb-true s.una 0 t)
+    (λ t. cond_both (nat_lt s.una s.nxt) again last Begins (λ u f. let no : false ≡ true = f in absurd cc)
+    (λ u. cond_both (nat_lt s.nxt (symbols s)) probe None Begins (λ v f. let no : false ≡ true = f in absurd cc) (λ v. tt)))) where
+      Begins : Option Piece → Type 0
+      Begins o = IfSome o (λ q. q.syn ≡ true → s.una ≡ 0)
+
+      again : Option Piece
+      again = Some (byte_piece s (s.una - 1) (again_len s) (again_fin s))
+
+      probe : Option Piece
+      probe = Some (byte_piece s (s.nxt - 1) (min (unsent_bytes s) 1) (unsent_bytes s == 0))
+
+      last : Option Piece
+      last = cond (nat_lt s.nxt (symbols s)) probe None
+
 -- of an endpoint whose sending half may have moved on
-piece-tells : (b c : ControlBlock) (p : Piece) → c.recv ≡ b.recv → c.send.iss < 2 ^ 32 → p.len ≤ 1460 → Tells b (piece_ready c p) (told c)
+piece-tells : (b c : ControlBlock) (p : Piece) → c.recv ≡ b.recv → (p.syn ≡ true → c.send.iss < 2 ^ 32) → p.len ≤ 1460 → Tells b (piece_ready c p) (told c)
 piece-tells b c p e iss small =
     let size = length-take p.len (drop (p.at - (c.send.total - length c.send.rest)) c.send.rest) in
     record {
@@ -87,11 +117,14 @@ module _ (b : ControlBlock) (h : IsSound b) where
   owed-tells false = tt
 
   next-tells : (o : Option Piece) → next_piece b.send ≡ o → AllTell b (ready_of (advanced b) o (owed_ready (advanced b))) (after_piece (advanced b) o (after_owed (advanced b)))
-  next-tells (Some p) e = let n = h.number in piece-tells b (advanced b) p refl (omega (arith, (next-goes b.send).iss)) (next-carries b.send p h.block.sending e).small
+  next-tells (Some p) e = piece-tells b (advanced b) p refl
+      (λ f. let n = h.number (next-begins b.send p h.block.sending.sent e f) in omega (arith, n, (next-goes b.send).iss))
+      (next-carries b.send p h.block.sending e).small
   next-tells None e = owed-tells (owes (advanced b))
 
   resend-tells : (o : Option Piece) → resent_piece b.send ≡ o → AllTell b (ready_of (retried b) o None) (after_piece (retried b) o (retried b))
-  resend-tells (Some p) e = let n = h.number in piece-tells b (retried b) p refl (omega (arith, (resend-goes b.send).iss)) (resent-carries b.send p h.block.sending e).small
+  resend-tells (Some p) e = piece-tells b (retried b) p refl
+      (λ f. let n = h.number (again-begins b.send p e f) in omega (arith, n, (resend-goes b.send).iss)) (resent-carries b.send p h.block.sending e).small
   resend-tells None e = tt
 
   emitted-tells : AllTell b (emitted b) (after_emit b)
@@ -131,7 +164,10 @@ timer-leaves b =
     (λ _. piece-leaves b (retried b) (retried b) (resent_piece b.send) sent sent)
 
 sound-then : (b d : ControlBlock) → IsSound b → IsControlBlock d → LeavesAs b d → IsSound d
-sound-then b d h k l = let n = h.number in record { block = k; number = omega (arith, l.send.iss) }
+sound-then b d h k l = record {
+  block = k;
+  number = λ z. let up = l.send.una in let n = h.number (omega (arith, up, z)) in omega (arith, l.send.iss, n);
+}
 
 -- ---- what the client was told
 

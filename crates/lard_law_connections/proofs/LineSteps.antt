@@ -3,20 +3,21 @@
 use Rattle.std.proofs.Common.{◌≡◌, ℕ, ◌+◌, ◌-◌, Bool, true, false, cond, List, [], ◌∷◌, ◌++◌, map, Option, Ok, refl, sym, ap, ◌∙◌, subst, append_assoc, append-nil, ⊎_elim, ◌||◌, nat_lt, ◌⊎◌, inl, inr}
 use Rattle.lard_law_view.specs.Prelude.{Client, Epoch, Event, Front, HasRule, IsViewed, Machine, Move, Node, Out, Packet, Part, Place, Rec, Row, Rules, Seen, clocked, conn, lose_at, machine_step, machine_told, over_note, passed, seen_on, setting_of}
 use Rattle.lard_base.specs.declared.event.Event.TheVariants as event
+use Rattle.lard_law_connections.proofs.LineClosed.{Behind, ClosedTwo, IsClosedIn, Nowhere, closed-append, one-closed, two-closed}
 use Rattle.lard_law_connections.proofs.LineHolding.{IsRead}
 use Rattle.lard_law_connections.proofs.LineLaw.{IsLined}
-use Rattle.lard_law_connections.proofs.LineNotes.{Begins, Ends, Enters, Alone, Goes, IsLater, Noted, Reads, Shares, Was, Waits}
+use Rattle.lard_law_connections.proofs.LineNotes.{Alone, Answers, Begins, Enters, Goes, IsLater, IsReadOn, Noted, Reads, Returns, Shares, Silent, Waits, Was}
 use Rattle.lard_law_connections.proofs.LineStands.{stand_at}
 use Rattle.lard_law_connections.proofs.LineTurns.{IsEntry, IsNoted, Notes, was_at}
 use Rattle.lard_law_connections.specs.LineLaws.{AreReleased, LineDue, Nothing, Release, due_behind}
 use Rattle.lard_law_connections.proofs.Calm.{Allows, first-calm, first_rows, gifts-calm, last-calm, last_rows, timers-calm, told-journal}
 use Rattle.lard_law_view.proofs.AnyShape.{IsAct, each-act, one-act, two-act}
-use Rattle.lard_law_view.proofs.Saying.{NotedAt, notes-all}
-use Rattle.lard_law_view.proofs.Shapes.{NamesNobody, ReadsOn, Shapes, both_out, each_out, move_of, with_rest}
+use Rattle.lard_law_view.proofs.Saying.{NamesNobody, NotedAt, NotedIn}
+use Rattle.lard_law_view.proofs.Shapes.{ActsOnTwo, ClosesBehind, ReadsOn, Shapes, both_out, each_out, move_of, with_rest}
 use Rattle.lard_law_view.proofs.Stepping.{step-has}
 use Rattle.lard_history.proofs.Each.{Each, Each-append, Each-weaker}
 use Rattle.lard_journal.specs.declared.rec.Rec.TheVariants as rec
-use Rattle.lard_law_view.proofs.OwnRecords.{behind}
+use Rattle.lard_law_view.proofs.OwnRecords.{IsNoClosing, behind}
 
 -- it adds to no load
 abbrev pub IsFalling : Rec → Type 0
@@ -47,7 +48,7 @@ read-quiet (rec.Served place c r code size via) h = ((λ inside. refl), tt, tt, 
 read-quiet (rec.Reset place c total) h = ((λ inside. refl), tt, tt, tt)
 read-quiet _ h = absurd h
 
-pub note-quiet : (place : Place) (c : ℕ) (r : Rec) → (place ≡ Front → ⊥) → NotedAt place c r → IsQuiet r
+note-quiet : (place : Place) (c : ℕ) (r : Rec) → (place ≡ Front → ⊥) → NotedAt place c r → IsQuiet r
 note-quiet Front c r never h = absurd (never refl)
 note-quiet (Client e) c (rec.Wrote d bytes) never h = ((λ inside. refl), tt, tt, tt)
 note-quiet (Client e) c (rec.Accepted d bytes) never h = ((λ inside. refl), tt, tt, tt)
@@ -60,6 +61,14 @@ note-quiet (Node n) c (rec.Queued k o d r path) never h = ((λ inside. refl), tt
 note-quiet (Node n) c (rec.Read k o d r path) never h = ((λ inside. refl), tt, tt, tt)
 note-quiet (Node n) c (rec.Hit k path) never h = ((λ inside. refl), tt, tt, tt)
 note-quiet _ c _ never h = absurd h
+
+nobody-quiet : (place : Place) (r : Rec) → (place ≡ Front → ⊥) → NamesNobody place r → IsQuiet r
+nobody-quiet Front r never h = absurd (never refl)
+nobody-quiet (Node n) (rec.Hit k path) never h = ((λ inside. refl), tt, tt, tt)
+nobody-quiet _ _ never h = absurd h
+
+pub in-quiet : (place : Place) (c : ℕ) (r : Rec) → (place ≡ Front → ⊥) → NotedIn place c r → IsQuiet r
+in-quiet place c r never h = ⊎_elim (λ (k : NotedAt place c r). note-quiet place c r never k) (λ (k : NamesNobody place r). nobody-quiet place r never k) h
 
 pub allows-quiet : Allows IsQuiet
 allows-quiet = record {
@@ -188,23 +197,55 @@ module _ (inside : ℕ → Bool) where
   ends-released c epoch last in_ h =
       subst (λ (b : Bool). AreReleased inside (cond b (Release c) Nothing) (rec.Released c ∷ last)) (sym (ap (λ (b : Bool). b || nat_lt 1 epoch.0) in_)) (refl, h)
 
-  ends-order : (c : ℕ) (epoch : Epoch) → inside c ≡ true → IsInOrder (rec.Took Front c epoch ∷ rec.Released c ∷ [])
-  ends-order c epoch in_ = record {
-    released = ends-released c epoch [] in_ tt;
-    falls = rec.Took Front c epoch ∷ rec.Released c ∷ [];
-    rises = [];
-    split = refl;
-    falling = (tt, (tt, tt));
-    rising = tt;
+  -- what is read on
+  on-order : (c : ℕ) (rs : List Rec) → IsReadOn c rs → IsInOrder rs
+  on-order c all (Answers rs e) = quiet-order rs (Each-weaker IsRead IsQuiet read-quiet rs e)
+  on-order c all (Waits rs e) = behind-read rs (rec.Waits c ∷ []) e tt (tt, tt)
+  on-order c all (Goes rs r path n add remove e) = behind-read rs (rec.Admitted c ∷ rec.AssignedFirst c r path n add remove ∷ []) e tt (tt, (tt, tt))
+
+  returns-order : (c : ℕ) (epoch : Epoch) (rs : List Rec) → inside c ≡ true → IsInOrder rs → IsInOrder (rec.Took Front c epoch ∷ rec.Released c ∷ rs)
+  returns-order c epoch rs in_ o = record {
+    released = ends-released c epoch rs in_ o.released;
+    falls = rec.Took Front c epoch ∷ rec.Released c ∷ o.falls;
+    rises = o.rises;
+    split = ap (λ (zs : List Rec). rec.Took Front c epoch ∷ rec.Released c ∷ zs) o.split;
+    falling = (tt, (tt, o.falling));
+    rising = o.rising;
   }
 
   pub noted-order : (c : ℕ) (s : Was) → inside c ≡ s.inside → (rs : List Rec) → Noted c s rs → IsInOrder rs
-  noted-order c s is all (Reads rs e) = quiet-order rs (Each-weaker IsRead IsQuiet read-quiet rs e)
+  noted-order c s is all Silent = quiet-order [] tt
   noted-order c s is all (Begins out) = begins-order c (is ∙ out)
-  noted-order c s is all (Waits reads e held) = behind-read reads (rec.Waits c ∷ []) e tt (tt, tt)
-  noted-order c s is all (Goes reads r path n add remove e out) = behind-read reads (rec.Admitted c ∷ rec.AssignedFirst c r path n add remove ∷ []) e tt (tt, (tt, tt))
+  noted-order c s is all (Reads rs held out on) = on-order c rs on
   noted-order c s is all (Shares over later e) = over-order c over later e
-  noted-order c s is all (Ends epoch in_) = ends-order c epoch (is ∙ in_)
+  noted-order c s is all (Returns rs in_ out on) = returns-order c (record { 0 = s.epoch + 1 }) rs (is ∙ in_) (on-order c rs on)
+
+  -- a node that is closed where a connection comes back
+  closed-released : (o : LineDue) (n : ℕ) (rs : List Rec) → AreReleased inside o rs → AreReleased inside o (rec.Closed n ∷ rs)
+  closed-released Nothing n rs h = h
+  closed-released (Release c) n rs h = h
+
+  closed-order : (xs ys : List Rec) → IsClosedIn xs ys → IsInOrder xs → IsInOrder ys
+  closed-order all same (Nowhere rs) o = o
+  closed-order all more (Behind c epoch n rs) o = go o.falls o.rises o.split o.falling o.rising where
+    it : List Rec
+    it = rec.Took Front c epoch ∷ rec.Closed n ∷ rec.Released c ∷ rs
+
+    go : (falls rises : List Rec) → rec.Took Front c epoch ∷ rec.Released c ∷ rs ≡ falls ++ rises → Each IsFalling falls → Each IsRising rises → IsInOrder it
+    go [] rises same f r = absurd (subst (Each IsRising) (sym same) r).1.0
+    go (x ∷ []) rises same f r =
+        let rest : rec.Released c ∷ rs ≡ rises = cc in
+        absurd (subst (Each IsRising) (sym rest) r).0
+    go (x ∷ y ∷ falls) rises same f r =
+        let rest : rs ≡ falls ++ rises = cc in
+        record {
+          released = closed-released (due_behind inside (rec.Took Front c epoch)) n (rec.Released c ∷ rs) o.released;
+          falls = rec.Took Front c epoch ∷ rec.Closed n ∷ rec.Released c ∷ falls;
+          rises = rises;
+          split = ap (λ (zs : List Rec). rec.Took Front c epoch ∷ rec.Closed n ∷ rec.Released c ∷ zs) rest;
+          falling = (tt, (tt, (tt, f.1.1)));
+          rising = r;
+        }
 
   -- ---- and of an admission behind them
 
@@ -286,15 +327,9 @@ module _ (inside : ℕ → Bool) where
 
 -- ---- a step
 
--- a list is known by what is seen of it
-pub rows-same : (xs ys : List Rec) → map Row xs ≡ map Row ys → xs ≡ ys
-rows-same [] [] e = refl
-rows-same [] (y ∷ ys) e = let no : [] ≡ Row y ∷ map Row ys = e in absurd cc
-rows-same (x ∷ xs) [] e = let no : Row x ∷ map Row xs ≡ [] = e in absurd cc
-rows-same (x ∷ xs) (y ∷ ys) e =
-    let one : x ≡ y = cc in
-    let rest : map Row xs ≡ map Row ys = cc in
-    λ i. one i ∷ rows-same xs ys rest i
+pub own-enters : (m : Machine) (c : ℕ) (v : Move) → IsNoted (conn m c) v → v.place ≡ Front → v.heads ≡ [] → Enters c v.said.notes
+unfolding conn
+own-enters m c v h at none = (h.alone at none).enters
 
 module _ (m : Machine) (lined : (q : ℕ) → IsLined (conn m q)) (inside : ℕ → Bool) (told_is : (q : ℕ) → inside q ≡ (stand_at (conn m q)).inside) where
   -- what a step adds is in order
@@ -318,31 +353,36 @@ module _ (m : Machine) (lined : (q : ℕ) → IsLined (conn m q)) (inside : ℕ 
   unfolding conn
   own-noted c v h at = ⊎_elim (λ (k : Noted c (was_at (conn m c)) v.said.notes). inl k) (λ (k : IsEntry (conn m c) v). inr k.enters) (h.noted at)
 
-  own-enters : (c : ℕ) (v : Move) → IsNoted (conn m c) v → v.place ≡ Front → v.heads ≡ [] → Enters c v.said.notes
-  unfolding conn
-  own-enters c v h at none = (h.alone at none).enters
-
   turn-order : (c : ℕ) (rs : List Rec) → Noted c (was_at (conn m c)) rs ⊎ Enters c rs → IsInOrder inside rs
   turn-order c rs h = ⊎_elim (λ (k : Noted c (was_at (conn m c)) rs). noted-order inside c (was_at (conn m c)) (told_is c) rs k) (λ (k : Enters c rs). alone-order inside c rs k) h
 
   -- what another place than the front end notes
-  other-order : (place : Place) (c : ℕ) (rs : List Rec) → (place ≡ Front → ⊥) → Each (NotedAt place c) rs → IsInOrder inside rs
-  other-order place c rs never e = quiet-order inside rs (Each-weaker (NotedAt place c) IsQuiet (λ r h. note-quiet place c r never h) rs e)
+  other-order : (place : Place) (c : ℕ) (rs : List Rec) → (place ≡ Front → ⊥) → Each (NotedIn place c) rs → IsInOrder inside rs
+  other-order place c rs never e = quiet-order inside rs (Each-weaker (NotedIn place c) IsQuiet (λ r h. in-quiet place c r never h) rs e)
 
-  notes-order : (place : Place) (c : ℕ) (heads : List Seen) (ns : List Rec) (o : Out) (p : Part) → Each (NotedAt place c) o.notes → ((net : List Packet) → seen_on c net o.notes ≡ map Row ns) → Notes (conn m c) (move_of place heads ns o p)
-      → IsInOrder inside o.notes
-  notes-order Front c heads ns o p noted seen does =
-      let same : o.notes ≡ ns = rows-same o.notes ns (sym (notes-all Front c [] o.notes tt noted) ∙ seen []) in
-      subst (IsInOrder inside) (sym same) (turn-order c ns (own-noted c (move_of Front heads ns o p) (does (lined c)) refl))
-  notes-order (Node n) c heads ns o p noted seen does = other-order (Node n) c o.notes (λ e. let no : Node n ≡ Front = e in absurd cc) noted
-  notes-order (Client d) c heads ns o p noted seen does = other-order (Client d) c o.notes (λ e. let no : Client d ≡ Front = e in absurd cc) noted
+  notes-order : (e : Event) (place : Place) (c : ℕ) (heads : List Seen) (ns : List Rec) (o : Out) (p : Part) → Each (NotedIn place c) o.notes
+      → ClosesBehind m e c o.notes ⊎ Each IsNoClosing o.notes → ((net : List Packet) → seen_on c net o.notes ≡ map Row ns)
+      → Notes (conn m c) (move_of place heads ns o p) → IsInOrder inside o.notes
+  notes-order e Front c heads ns o p noted closes seen does =
+      closed-order inside ns o.notes (one-closed m e c ns o.notes noted closes seen)
+      (turn-order c ns (own-noted c (move_of Front heads ns o p) (does (lined c)) refl))
+  notes-order e (Node n) c heads ns o p noted closes seen does =
+      other-order (Node n) c o.notes (λ e. let no : Node n ≡ Front = e in absurd cc) noted
+  notes-order e (Client d) c heads ns o p noted closes seen does =
+      other-order (Client d) c o.notes (λ e. let no : Client d ≡ Front = e in absurd cc) noted
 
   -- of two, at the front end
-  both-order : (c d : ℕ) (heads : List Seen) (a b z : Out) (ns : List Rec) (p r : Part) → Each (NotedAt Front c) (a.notes ++ z.notes) → Each ReadsOn z.notes → ((net : List Packet) → seen_on c net (a.notes ++ z.notes) ≡ map Row ns)
-      → Notes (conn m c) (move_of Front heads ns (with_rest a z) p) → Notes (conn m d) (move_of Front [] b.notes b r) → IsInOrder inside (a.notes ++ b.notes ++ z.notes)
-  both-order c d heads a b z ns p r noted on seen does then =
-      round-order inside d a.notes b.notes z.notes (notes-order Front c heads ns (with_rest a z) p noted seen does) (Each-weaker ReadsOn IsQuiet on-quiet z.notes on)
-      (own-enters d (move_of Front [] b.notes b r) (then (lined d)) refl refl)
+  both-order : (w : Machine) (e : Event) (a b z : Out) (rows : List Rec) (c d : ℕ) (heads : List Seen) (ns : List Rec) (p r : Part)
+      → ActsOnTwo m w e a b z rows c d heads ns p r → Notes (conn m c) (move_of Front heads ns (with_rest a z) p)
+      → Notes (conn m d) (move_of Front [] b.notes b r) → IsInOrder inside (a.notes ++ b.notes ++ z.notes)
+  both-order w e a b z rows c d heads ns p r act does then =
+      let enters : Enters d b.notes = own-enters m d (move_of Front [] b.notes b r) (then (lined d)) refl refl in
+      let k : ClosedTwo c ns a.notes z.notes = two-closed m w e a b z rows c d heads ns p r act enters in
+      let turn : IsInOrder inside (k.own ++ z.notes) =
+      subst (IsInOrder inside) (sym k.are) (turn-order c ns (own-noted c (move_of Front heads ns (with_rest a z) p) (does (lined c)) refl)) in
+      closed-order inside (k.own ++ b.notes ++ z.notes) (a.notes ++ b.notes ++ z.notes)
+      (closed-append (k.own ++ b.notes) (a.notes ++ b.notes) z.notes (closed-append k.own a.notes b.notes k.is))
+      (round-order inside d k.own b.notes z.notes turn (Each-weaker ReadsOn IsQuiet on-quiet z.notes act.reads_on) enters)
 
   -- what names nobody
   nobody-order : (place : Place) (rs : List Rec) → Each (NamesNobody place) rs → IsInOrder inside rs
@@ -358,9 +398,10 @@ module _ (m : Machine) (lined : (q : ℕ) → IsLined (conn m q)) (inside : ℕ 
   shapes-add : Shapes m Notes (λ e n. Adds n)
   unfolding clocked
   shapes-add = record {
-    one = λ w e place o c heads ns p act does. told-adds w e place o (one-act m w e place o c heads ns p act) (notes-order place c heads ns o p act.said.notes act.notes does);
+    one = λ w e place o c heads ns p act does. told-adds w e place o (one-act m w e place o c heads ns p act)
+        (notes-order e place c heads ns o p act.said.notes act.closes act.notes does);
     two = λ w e a b z rows c d heads ns p r act does too. told-adds w e Front (both_out a b z rows) (two-act m w e a b z rows c d heads ns p r act)
-        (both-order c d heads a b z ns p r (Each-append (NotedAt Front c) a.notes z.notes act.said.notes act.said_rest.notes) act.reads_on act.notes does too);
+        (both-order w e a b z rows c d heads ns p r act does too);
     each = λ w e place notes xs act made. told-adds w e place (each_out notes xs) (each-act m w e place notes xs act)
         (nobody-order place notes act.nobody);
     nobody = λ k l at there. passed-adds m (event.Deliver k) (rec.Got k ∷ []) refl (((λ i. refl), tt, tt, tt), tt);

@@ -2,8 +2,9 @@
 use Rattle.std.proofs.Common.{◌≡◌, ℕ, ◌^◌, ◌<◌, ◌≤◌, List, [], sym, subst, ◌⊎◌, inl, inr, true}
 use Rattle.lard_law_view.specs.Prelude.{Came, Client, ClientRules, Conn, Front, FrontAdmits, FrontEnv, FrontGets, FrontHears, FrontRules, Move, Node, NodeRules, Place, Rec, Row, Rules, Seen, Setting, client_begins, front_does, front_gets, front_rule, node_does, nothing_said, packet_seen, stands}
 use Rattle.lard_law_view.proofs.EachClient.{client_goes, each-client, of-client}
-use Rattle.lard_law_connections.proofs.LineLaw.{IsLined, IsThere, node-there}
-use Rattle.lard_law_connections.proofs.LineNotes.{rule-noted, DeedNotes, Enters, Noted, Was, admitted-enters, admitted-waits, gets-noted, held_there, none-noted, was}
+use Rattle.lard_law_connections.proofs.LineFrontMessages.{brings-valid}
+use Rattle.lard_law_connections.proofs.LineLaw.{IsLined, IsThere, front-small, node-there}
+use Rattle.lard_law_connections.proofs.LineNotes.{DeedNotes, Enters, Noted, Silent, Was, admitted-enters, admitted-waits, gets-noted, rule-noted, was}
 use Rattle.lard_law_view.proofs.NodeHeads.{heads-of, of-aside}
 use Rattle.lard_law_connections.proofs.LineStands.{IsElsewhere, stand_at}
 use Rattle.lard_law_view.proofs.EachFront.{EachFrontRule, FrontComes, admission, each-front}
@@ -22,7 +23,7 @@ pub record IsEntry (x : Conn) (v : Move) : Type 0 where
 
 -- what is so of it before
 abbrev pub was_at : Conn → Was
-was_at x = was (stand_at x) (held_there x.part.front.row)
+was_at x = was (stand_at x) x.part.front.row
 
 -- It is seen to come, or to be an event of its client; or it is a response, or the reset at the stream limit. None of these tells of the
 -- line, or of who owns the connection.
@@ -62,7 +63,7 @@ by-node x n rs heads d bare =
 by-front : (x : Conn) (env : FrontEnv) (heads : List Seen) (d : front.FrontDeed) → env.serve.c ≡ x.c → Each IsBare heads → (heads ≡ [] → ⊥) → (IsLined x → DeedNotes env.serve.c (was_at x) d) → Notes x (front_does x heads d)
 by-front x env heads d same bare some noted h = go d (subst (λ (c : ℕ). DeedNotes c (was_at x) d) same (noted h)) where
   go : (d : front.FrontDeed) → DeedNotes x.c (was_at x) d → IsNoted x (front_does x heads d)
-  go front.Drops k = record { bare = bare; noted = λ at. inl (none-noted x.c (was_at x)); alone = λ at none. absurd (some none) }
+  go front.Drops k = record { bare = bare; noted = λ at. inl (Silent); alone = λ at none. absurd (some none) }
   go (front.Says t) k = record { bare = bare; noted = λ at. inl k; alone = λ at none. absurd (some none) }
   go (front.Does did) k = record { bare = bare; noted = λ at. inl k; alone = λ at none. absurd (some none) }
 
@@ -100,11 +101,13 @@ module _ (k : Setting) (small : k.stream ≤ 2 ^ 30) where
     front-notes x env heads (FrontHears bytes given) is comes h =
         let some : IsSome heads (FrontHears bytes given) = is-some x env heads (FrontHears bytes given) comes in
         by-front x env heads (front_gets env x.part.front bytes given) is.number some.0 some.1
-        (λ h. gets-noted env (subst (λ (n : ℕ). n ≤ 2 ^ 30) (sym is.stream) small) (subst (λ (n : ℕ). n < 2 ^ 32) (sym comes.iss_is) (h.number comes.station comes.there)) x.part.front (stand_at x) bytes given h.stands) h
+        (λ h. gets-noted env (front-small k small x.c env is) x.part.front (stand_at x) h.stands
+        (subst (λ (n : ℕ). n < 2 ^ 32) (sym comes.iss_is) (h.number comes.station comes.there)) bytes given) h
     front-notes x env heads g is comes h =
         let some = is-some x env heads g comes in
         by-front x env heads (front_rule env x.part.front g) is.number some.0 some.1
-        (λ h. rule-noted env x.part.front (stand_at x) (held_there x.part.front.row) h.stands g tt (admission x env heads g comes)) h
+        (λ h. rule-noted env (front-small k small x.c env is) x.part.front (stand_at x) h.stands g tt (brings-valid x env heads g comes)
+        (admission x env heads g comes)) h
 
   nodes : NodeRules k Notes
   nodes = each-node k Notes (record {
@@ -115,7 +118,7 @@ module _ (k : Setting) (small : k.stream ≤ 2 ^ 30) where
 
   -- nothing is noted of what is not heard
   ignored : (x : Conn) (from to : Place) (bytes : List ℕ) → Notes x (stands x to (packet_seen from to bytes) nothing_said)
-  ignored x from to bytes h = record { bare = (tt, tt); noted = λ at. inl (none-noted x.c (was_at x)); alone = λ at none. absurd (some none) } where
+  ignored x from to bytes h = record { bare = (tt, tt); noted = λ at. inl (Silent); alone = λ at none. absurd (some none) } where
     some : packet_seen from to bytes ≡ [] → ⊥
     some e = cc
 

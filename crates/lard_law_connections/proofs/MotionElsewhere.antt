@@ -1,13 +1,13 @@
 -- What is known of a connection's way at the front end, and that what happens elsewhere leaves it.
-use Rattle.std.proofs.Common.{◌≡◌, ℕ, ◌||◌, ◌&&◌, not, Bool, true, false, cond, List, [], ◌∷◌, ◌++◌, map, Option, Some, None, refl, sym, ap, ◌∙◌, subst, ◌+◌, append-nil}
+use Rattle.std.proofs.Common.{◌≡◌, ℕ, ◌||◌, ◌&&◌, not, Bool, true, false, cond, List, [], ◌∷◌, ◌++◌, map, Option, Some, None, refl, sym, ap, ◌∙◌, subst, ◌+◌, ◌≤◌, append-nil, arith}
 use Rattle.std.specs.List.{fold, list_any}
 use Rattle.std.proofs.lemmas.List.Folds.{list_any-append}
 use Rattle.lard_law_view.specs.Prelude.{Came, Client, Conn, Front, FrontConn, FrontPart, FrontRow, IsConnNumber, IsConnSound, IsMachine, Kept, Letter, Move, Node, NodePart, Place, Rec, Row, Seen, grown, letter, letters_of, listed, rows_of, seen_in}
 use Rattle.lard_law_connections.specs.Motion.{Forwards, HandsOff, forwards_by, IsHandedOff, IsNextUp, StepsUp, TakesBack, TakesFirst, first_back, first_syn, first_takes, forwards_of, later_takes}
 use Rattle.lard_law_connections.specs.MotionStory.{Story, back_in, first_node, forward_to, front_gave_epoch, front_took, is_among, is_syn_in, last_gave, of_row, picked, refused_in, row_step, segment_in, story, to_node}
 use Rattle.lard_law_connections.proofs.MotionPicking.{IsApart, IsStill, apart-back, apart-segments, apart-story, apart-syn, came-none, pick, pick-seen, picked-append, rows-syn, still-all, stills-first, stills-gave, stills-took, still-first, still-gave, still-took, or-false, story-grown, IsNoGift, pick-given, pick-noted, pick-sent}
-use Rattle.lard_law_connections.specs.Places.{IsDecided, message_head}
-use Rattle.lard_law_connections.proofs.PlacesGrowing.{decided-grows}
+use Rattle.lard_law_connections.specs.Places.{message_head}
+use Rattle.lard_law_connections.proofs.PlacesGrowing.{FrontGrows}
 use Rattle.lard_law_connections.proofs.PlacesTurns.{IsPlaced, Owes}
 use Rattle.lard_law_view.specs.View.{sending}
 use Rattle.lard_law_view.proofs.Fine.{IsItsOwn}
@@ -52,9 +52,15 @@ abbrev pub RowKnown : Story → Option FrontRow → Type 0
 RowKnown t None = (t.took ≡ false) × (t.syn ≡ false) × IsBack t
 RowKnown t (Some row) = (t.took ≡ true) × (t.syn ≡ true) × StageKnown t row.stage
 
--- a node took it in this epoch, or in a later one
-abbrev pub SomeDecided : ℕ → (ℕ → NodePart) → Type 0
-SomeDecided e nodes = (m : ℕ) × IsDecided e (nodes m).row
+-- the front end has it in this epoch, or in a later one
+abbrev pub IsNoLater : ℕ → Option FrontRow → Type 0
+IsNoLater e None = ⊥
+IsNoLater e (Some row) = e ≤ row.epoch.0
+
+pub no-later-grows : (nodes : ℕ → NodePart) (e : ℕ) (o r : Option FrontRow) → FrontGrows nodes o r → IsNoLater e o → IsNoLater e r
+no-later-grows nodes e None r g h = absurd h
+no-later-grows nodes e (Some row) None g h = absurd g
+no-later-grows nodes e (Some row) (Some next) g h = omega (arith, g.0, h)
 
 -- what is kept is an Offer
 abbrev pub IsOfferKept : Kept → Type 0
@@ -65,7 +71,7 @@ IsNotOfClient l = IsMachine l.from
 
 pub record IsKnown (x : Conn) : Type 0 where
   pub row : RowKnown (story x.c x.seen) x.part.front.row
-  pub back : (e : ℕ) → is_among e (story x.c x.seen).back ≡ true → SomeDecided e x.part.nodes
+  pub back : (e : ℕ) → is_among e (story x.c x.seen).back ≡ true → IsNoLater e x.part.front.row
   pub kept : Each IsOfferKept x.part.front.kept
   pub fresh : x.part.station ≡ None → Each IsNotOfClient x.letters
 
@@ -197,7 +203,7 @@ same-none : {A : Type 0} (b : Bool) → ◌≡◌ {A = List A} (cond b [] []) []
 same-none true = refl
 same-none false = refl
 
-and-false : (b : Bool) → b && false ≡ false
+pub and-false : (b : Bool) → b && false ≡ false
 and-false true = refl
 and-false false = refl
 
@@ -225,9 +231,8 @@ pub still-known : (x : Conn) (v : Move) → Helps x v → IsKnown x → story x.
     → (v.part.station ≡ None → Each IsNotOfClient (x.letters ++ letters_of v)) → IsKnown (grown x v)
 still-known x v help known same row kept fresh = record {
   row = subst (λ (t : Story). RowKnown t v.part.front.row) (sym same) row;
-  back = λ e among.
-      let d : SomeDecided e x.part.nodes = known.back e (ap (λ (t : Story). is_among e t.back) (sym same) ∙ among) in
-      (d.0, decided-grows e (x.part.nodes d.0).row (v.part.nodes d.0).row (help.owes.grows.nodes d.0) d.1);
+  back = λ e among. no-later-grows v.part.nodes e x.part.front.row v.part.front.row help.owes.grows.front
+      (known.back e (ap (λ (t : Story). is_among e t.back) (sym same) ∙ among));
   kept = kept;
   fresh = fresh;
 }

@@ -1,19 +1,19 @@
 -- What each rule of the front end makes of a connection's way.
-use Rattle.std.proofs.Common.{◌≡◌, ◌<◌, ◌+◌, ◌^◌, ◌==◌, ◌||◌, ◌&&◌, not, ℕ, Bool, true, false, cond, List, [], ◌∷◌, ◌++◌, map, Option, Some, None, inl, refl, sym, ap, ◌∙◌, subst, arith, append-nil, eqb-true, eq-eqb}
+use Rattle.std.proofs.Common.{◌≡◌, ◌<◌, ◌+◌, ◌^◌, ◌==◌, ◌||◌, ◌&&◌, not, ℕ, Bool, true, false, cond, List, [], ◌∷◌, ◌++◌, map, Option, Some, None, is_some, inl, inr, ⊎_elim, ◌⊎◌, refl, sym, ap, ◌∙◌, subst, arith, append-nil, eqb-true, eq-eqb}
 use Rattle.std.proofs.lemmas.Bool.{both_ways, cond_both}
 use Rattle.std.proofs.lemmas.List.Folds.{list_any-append}
 use Rattle.std.proofs.lemmas.List.Sums.{fold-append}
 use Rattle.std.specs.List.{fold}
-use Rattle.lard_law_view.specs.Prelude.{Ask, BackRow, Call, Client, Conn, ControlBlock, Did, EndedBy, Ending, Epoch, Final, First, FirstChoice, Front, FrontConn, FrontDeed, FrontEnv, FrontGets, FrontHears, FrontPart, FrontRest, FrontRow, FrontTurn, IsEarlyHere, IsFrontEnv, Later, Move, Node, NodePart, Place, Reading, Rec, Said as Segment, Seen, Service, Setting, Turn, ack_sent, after_timer, assigned_notes, assigns, by_front, end_answer, ended_with, front_begun, front_does, front_ended, front_ended_by, front_ends, front_fired, front_hears, front_reads, front_rest, front_rests, front_rule, front_saying, handed_off, heard, hears_at, is_away, is_plain_syn, last_words, leaves_by, letter, letters_of, listed, listening, met, next_epoch, on_segment, over_note, placed, seen_in, sent_of, serving, serving_settled, settled_by, spoken, stage_after, tag_sent, taken_by, tale_at, timed, tombstone, turn_here, with_front, without}
+use Rattle.lard_law_view.specs.Prelude.{Ask, Call, Client, Conn, ControlBlock, Did, EndedBy, EndpointParts, Ending, Epoch, Final, First, FirstChoice, Front, FrontConn, FrontDeed, FrontEnv, FrontGets, FrontHears, FrontPart, FrontRest, FrontRow, FrontTurn, IsOnceAway, IsOnceHere, IsFrontEnv, Later, Move, Node, NodePart, Place, Reading, Rec, ReturnedBy, Row, Said as Segment, Seen, Service, Setting, Turn, ack_sent, adopted, after_timer, assigned_notes, assigns, by_front, end_answer, ended_with, front_begun, front_does, front_ended, front_ended_by, front_ends, front_fired, front_hears, front_reads, front_rest, front_rests, front_rule, front_saying, handed_off, heard, hears_at, is_away, is_plain_syn, last_words, leaves_by, letter, letters_of, listed, listening, met, next_epoch, on_segment, over_note, placed, rows_of, seen_in, sent_of, serving, serving_settled, settled_by, spoken, stage_after, tag_sent, taken_by, tale_at, timed, tombstone, turn_here, with_front, without}
 use Rattle.lard_base.specs.declared.place.TimerKind.TheVariants as timer
 use Rattle.lard_law_connections.specs.Motion.{IsHandedOff, first_back, first_syn, first_takes, forwards_by, forwards_of, later_takes}
-use Rattle.lard_law_connections.specs.MotionStory.{Story, first_node, forward_to, front_gave_epoch, front_took, is_among, last_gave, row_step, story, to_node}
+use Rattle.lard_law_connections.specs.MotionStory.{Story, first_node, forward_to, front_gave_epoch, front_took, is_among, last_gave, picked, refused_in, row_step, story, to_node}
 use Rattle.lard_law_connections.proofs.MotionAnswers.{reads-answers}
-use Rattle.lard_law_connections.proofs.MotionElsewhere.{AreNextUp, Helps, IsAway, IsBack, IsKnown, IsNotOfClient, IsOfferKept, Lists, Moves, Parts, RowKnown, SomeDecided, StageKnown, by-lists, machine-letters, no-forwards, no-syn, no-takes, none-back, seen-back, seen-firsts, seen-forwards, seen-gives, seen-said, seen-segments, seen-syn, seen-takes}
-use Rattle.lard_law_connections.proofs.MotionPicking.{IsStill, pick, pick-append, segments-none, still-all, stills-first, stills-took, story-grown}
-use Rattle.lard_law_connections.specs.Places.{ArePast, IsDecided, IsPast, Owning, Sits, StageSits, owning, unowned}
+use Rattle.lard_law_connections.proofs.MotionElsewhere.{AreNextUp, Helps, IsAway, IsBack, IsKnown, IsNotOfClient, IsOfferKept, Lists, Moves, Parts, RowKnown, IsNoLater, StageKnown, and-false, no-later-grows, by-lists, machine-letters, no-forwards, no-syn, no-takes, none-back, seen-back, seen-firsts, seen-forwards, seen-gives, seen-said, seen-segments, seen-syn, seen-takes}
+use Rattle.lard_law_connections.proofs.MotionPicking.{IsStill, pick, pick-append, picked-append, segments-none, still-all, stills-first, stills-took, story-grown}
+use Rattle.lard_law_connections.specs.Places.{HasEnded, IsComing, IsDecided, IsOffered, IsRefusalTold, IsThere, Offers, Owning, Sits, StageSits, owning, unowned}
 use Rattle.lard_law_connections.proofs.MotionEpochs.{gave-last}
-use Rattle.lard_law_connections.proofs.PlacesFrontMessages.{there-epoch}
+use Rattle.lard_law_connections.proofs.PlacesFrontMessages.{coming-refused, there-epoch}
 use Rattle.lard_law_connections.proofs.PlacesFrontRules.{decided-there}
 use Rattle.lard_law_connections.proofs.PlacesHeads.{spelled-head}
 use Rattle.lard_law_connections.proofs.PlacesLoops.{settled-is, spoken-to}
@@ -21,7 +21,10 @@ use Rattle.lard_law_connections.proofs.PlacesTurns.{IsPlaced, early-at}
 use Rattle.lard_law_view.specs.View.{sending}
 use Rattle.lard_dispatch.specs.declared.dispatch.First.TheVariants as first
 use Rattle.lard_dispatch.specs.Laws as call
-use Rattle.lard_rules.specs.Front.{Drops, Says, Does, message}
+use Rattle.lard_rules.specs.Front.{Drops, Says, Does, back_answer, back_notes, back_part, back_rest, does_first, front_returned, is_with, message, parts_kept, reads_on, returned_by, stands_first}
+use Rattle.lard_handoff_front.specs.Returns.{refused_answer, returned_row}
+use Rattle.lard_handoff_front.specs.Row.{offered_to}
+use Rattle.lard_handoff_front.specs.declared.table.returns.Back.TheVariants as back
 use Rattle.lard_handoff_front.specs.declared.row.FrontConn.TheVariants as stage
 use Rattle.lard_handoff_front.specs.declared.table.OnEnded.TheVariants.{New, Again, Stale}
 use Rattle.lard_history.proofs.Each.{Each, Each-append}
@@ -29,13 +32,14 @@ use Rattle.lard_journal.specs.declared.rec.Rec.TheVariants as rec
 use Rattle.lard_message.specs.declared.message.Body.TheVariants as body
 use Rattle.lard_rules.specs.declared.places.Ending.TheVariants as ending
 use Rattle.lard_law_view.proofs.EndpointSends.{AllTo, ready-to}
-use Rattle.lard_law_connections.proofs.MotionComings.{assigned-still, over-still, Heads, answers-still, back-behind, behind_heads, forwarded-is, not-forwarded, resent-none, row-behind, without-kept}
-use Rattle.lard_rules.proofs.FrontCases.{IsAsGiven, IsInStage, KeptByFront, front-keeps, of-stage, fired_before, fired_service}
+use Rattle.lard_law_connections.proofs.MotionComings.{assigned-still, over-still, Heads, among-more, answers-still, back-behind, behind_heads, forwarded-is, not-forwarded, resent-none, row-behind, without-kept}
+use Rattle.lard_rules.proofs.FrontCases.{IsAsGiven, IsInStage, KeptByFront, front-keeps, fired_before, fired_service}
 
 -- anything but a segment, and what brings the connection back
 abbrev pub IsCalm : FrontGets → Type 0
 IsCalm (FrontHears bytes given) = ⊥
 IsCalm (EndedBy n epoch last) = ⊥
+IsCalm (ReturnedBy n epoch given) = ⊥
 IsCalm _ = Unit {0}
 
 or-true : (b : Bool) → b || true ≡ true
@@ -45,7 +49,7 @@ or-true false = refl
 -- ---- one connection
 
 module _ (k : Setting) (x : Conn) (at_place : IsPlaced x) (known : IsKnown x) (heads : List Seen) (syn : Bool) (es : List ℕ) (segments : List (List ℕ)) (came : Heads x heads syn es segments) (env : FrontEnv) (is : IsFrontEnv k x.c env)
-    (some_decided : (e : ℕ) → is_among e ((story x.c x.seen).back ++ es) ≡ true → SomeDecided e x.part.nodes) where
+    (no_later : (e : ℕ) → is_among e ((story x.c x.seen).back ++ es) ≡ true → IsNoLater e x.part.front.row) where
   abbrev p : FrontPart
   p = x.part.front
 
@@ -109,7 +113,8 @@ module _ (k : Setting) (x : Conn) (at_place : IsPlaced x) (known : IsKnown x) (h
         by-lists x v takes gives firsts forwards syn es segments lists m.first (subst (IsHandedOff gives firsts) (sym (seen-said x v help.own parts (pick to_node (map (sending Front) turn.messages)) (segments-none to_node Front x.c (λ i bytes. refl) turn.segments m.to) refl)) m.off) m.back m.up m.forth,
         record {
           row = subst (λ (s : Story). RowKnown s part.row) (sym now) m.row;
-          back = λ e among. some_decided e (ap (λ (l : List ℕ). is_among e l) (sym (ap (λ (s : Story). s.back) now ∙ m.same_back)) ∙ among);
+          back = λ e among. no-later-grows v.part.nodes e p.row part.row help.owes.grows.front
+              (no_later e (ap (λ (l : List ℕ). is_among e l) (sym (ap (λ (s : Story). s.back) now ∙ m.same_back)) ∙ among));
           kept = m.kept;
           fresh = fresh-on part turn;
         },
@@ -176,10 +181,18 @@ module _ (k : Setting) (x : Conn) (at_place : IsPlaced x) (known : IsKnown x) (h
         go (ending.Here b count) = stay b
         go (ending.Over last) = back-behind t syn es h
 
+  -- it did not come back in an epoch that the front end has not reached
+  never-among : (e : ℕ) (row : FrontRow) → p.row ≡ Some row → row.epoch.0 < e → is_among e (t.back ++ es) ≡ false
+  never-among e row found later = go (is_among e (t.back ++ es)) refl where
+    go : (b : Bool) → is_among e (t.back ++ es) ≡ b → b ≡ false
+    go false f = refl
+    go true f = let le : IsNoLater e (Some row) = subst (IsNoLater e) found (no_later e f) in absurd (omega (arith, le, later))
+
   -- it is handed off
-  handed-move : (row : FrontRow) → p.row ≡ Some row → IsBack t → IsEarlyHere row.epoch.0 → ArePast row.epoch.0 nodes → es ≡ [] → (s : Service) (path : List ℕ) (choice : FirstChoice) (calls : List Call) → Each IsStill s.notes
+  handed-move : (row : FrontRow) → p.row ≡ Some row → IsBack t → IsOnceHere row.epoch.0 → es ≡ []
+      → (s : Service) (path : List ℕ) (choice : FirstChoice) (calls : List Call) → Each IsStill s.notes
       → Goes (Does (record { part = (handed_off env row s path choice).0; turn = (handed_off env row s path choice).1; calls = calls }))
-  handed-move row found h early past none s path choice calls notes =
+  handed-move row found h early none s path choice calls notes =
       let given : FrontPart × FrontTurn = handed_off env row s path choice in
       let e : ℕ = row.epoch.0 in
       let more : List Rec = rec.Admitted env.serve.c ∷ rec.AssignedFirst env.serve.c (s.count + 1) path choice.node choice.add choice.remove ∷ [] in
@@ -203,35 +216,31 @@ module _ (k : Setting) (x : Conn) (at_place : IsPlaced x) (known : IsKnown x) (h
         same_back = refl;
         kept = ((e + 1, spelled-head _ small), tt);
       }) where
-        undecided : (o : Option BackRow) → IsPast row.epoch.0 o → IsDecided (row.epoch.0 + 1) o → ⊥
-        undecided None q d = d
-        undecided (Some b) q d = omega (arith, q.0, d)
-
         -- it did not come back in the next epoch
         undone : is_among (row.epoch.0 + 1) (t.back ++ es) ≡ false
-        undone = go (is_among (row.epoch.0 + 1) (t.back ++ es)) refl where
-          go : (b : Bool) → is_among (row.epoch.0 + 1) (t.back ++ es) ≡ b → b ≡ false
-          go false f = refl
-          go true f = let some : SomeDecided (row.epoch.0 + 1) nodes = some_decided (row.epoch.0 + 1) f in absurd (undecided (nodes some.0).row (past some.0) some.1)
+        undone = never-among (row.epoch.0 + 1) row found (omega arith)
 
-  placed-move : (row : FrontRow) → p.row ≡ Some row → IsBack t → IsEarlyHere row.epoch.0 → ArePast row.epoch.0 nodes → es ≡ [] → (rest : FrontRest) (s : Service) (path : List ℕ) (f : First) → Each IsStill s.notes
+  placed-move : (row : FrontRow) → p.row ≡ Some row → IsBack t → IsOnceHere row.epoch.0 → es ≡ []
+      → (rest : FrontRest) (s : Service) (path : List ℕ) (f : First) → Each IsStill s.notes
       → Goes (Does (placed env p row rest s path f))
-  placed-move row found h early past none rest s path (first.Go choice) notes = handed-move row found h early past none s path choice (call.First env.serve.c path env.now ∷ []) notes
-  placed-move row found h early past none rest s path first.Waits notes =
+  placed-move row found h early none rest s path (first.Go choice) notes = handed-move row found h early none s path choice (call.First env.serve.c path env.now ∷ []) notes
+  placed-move row found h early none rest s path first.Waits notes =
       let w : Service = record s { notes = s.notes ++ rec.Waits env.serve.c ∷ [] } in
       ends-move row found h (record rest { target = Some path }) stage.Waiting (λ b. back-behind t syn es h) (spoken env.serve w []) (call.First env.serve.c path env.now ∷ leaves_by env.serve.c (spoken env.serve w []).0)
       (Each-append IsStill s.notes (rec.Waits env.serve.c ∷ []) notes (tt, tt)) (spoken-to env.serve w [] tt)
 
-  settled-move : (row : FrontRow) → p.row ≡ Some row → IsBack t → IsEarlyHere row.epoch.0 → ArePast row.epoch.0 nodes → es ≡ [] → (rest : FrontRest) (s : Service) (o : Option (List ℕ)) → Each IsStill s.notes → Goes (settled_by env p row rest s o)
-  settled-move row found h early past none rest s None notes =
+  settled-move : (row : FrontRow) → p.row ≡ Some row → IsBack t → IsOnceHere row.epoch.0 → es ≡ [] → (rest : FrontRest) (s : Service) (o : Option (List ℕ))
+      → Each IsStill s.notes → Goes (settled_by env p row rest s o)
+  settled-move row found h early none rest s None notes =
       let done = settled-is env.serve s in
       ends-move row found h rest stage.Held (λ b. back-behind t syn es h) (serving_settled env.serve s) [] (subst (Each IsStill) (sym done.notes) notes) done.to
-  settled-move row found h early past none rest s (Some path) notes = placed-move row found h early past none rest s path (env.first path) notes
+  settled-move row found h early none rest s (Some path) notes = placed-move row found h early none rest s path (env.first path) notes
 
-  heard-move : (row : FrontRow) → p.row ≡ Some row → IsBack t → IsEarlyHere row.epoch.0 → ArePast row.epoch.0 nodes → es ≡ [] → (rest : FrontRest) (b : ControlBlock) → Goes (heard env p row rest b)
-  heard-move row found h early past none rest b =
+  heard-move : (row : FrontRow) → p.row ≡ Some row → IsBack t → IsOnceHere row.epoch.0 → es ≡ [] → (rest : FrontRest) (b : ControlBlock)
+      → Goes (heard env p row rest b)
+  heard-move row found h early none rest b =
       let r : Reading = front_reads env.serve (record { service = serving b rest.count []; target = None }) in
-      settled-move row found h early past none rest r.service r.target (answers-still r.service.notes (reads-answers env.serve (record { service = serving b rest.count []; target = None }) tt))
+      settled-move row found h early none rest r.service r.target (answers-still r.service.notes (reads-answers env.serve (record { service = serving b rest.count []; target = None }) tt))
 
   -- ---- what is kept is as it was
 
@@ -342,8 +351,7 @@ module _ (k : Setting) (x : Conn) (at_place : IsPlaced x) (known : IsKnown x) (h
 
       hears-at : (s : Segment) (row : FrontRow) → p.row ≡ Some row → (st : FrontConn) → row.stage ≡ st → Goes (hears_at env p row bytes s st)
       hears-at s row found (stage.Held b) at =
-          let sits : StageSits row.epoch.0 own nodes (stage.Held b) = subst (StageSits row.epoch.0 own nodes) at (sits-row row found) in
-          heard-move row found (subst (StageKnown t) at (row-of row found).2) (early-at x at_place row found (stage.Held b) at) sits.1.1 no_back (front_rest p.rest) (on_segment b s).1
+          heard-move row found (subst (StageKnown t) at (row-of row found).2) (early-at x at_place row found (stage.Held b) at) no_back (front_rest p.rest) (on_segment b s).1
       hears-at s row found (stage.Waiting b) at =
           let w : Service = serving (on_segment b s).1 (front_rest p.rest).count [] in
           let h : IsBack t = subst (StageKnown t) at (row-of row found).2 in
@@ -405,9 +413,10 @@ module _ (k : Setting) (x : Conn) (at_place : IsPlaced x) (known : IsKnown x) (h
         assigns_next = λ n epoch ask m rest found there next. assigns-move rest n epoch ask (env.later ask);
         ends_again = λ n epoch last no row found away again. absurd no;
         ends = λ n epoch last no row found away. absurd no;
+        gives_again = λ n epoch parts no row found past. absurd no;
+        returns = λ n epoch given no row parts at. absurd no;
         admits = λ choice made met row b path at target.
-            let sits : StageSits row.epoch.0 own nodes (stage.Waiting b) = (of-stage (Sits own nodes) p row (stage.Waiting b) at at_place.sits).0 in
-            handed-move row at.0 (held-in row (stage.Waiting b) at) (early-at x at_place row at.0 (stage.Waiting b) at.1) sits.1.1 no_back
+            handed-move row at.0 (held-in row (stage.Waiting b) at) (early-at x at_place row at.0 (stage.Waiting b) at.1) no_back
             (serving b (front_rest p.rest).count []) path choice [] tt;
       }
 
@@ -515,29 +524,209 @@ module _ (k : Setting) (x : Conn) (at_place : IsPlaced x) (known : IsKnown x) (h
           some-same : (d e : ℕ) → Some d ≡ Some e → d ≡ e
           some-same d e f = cc
 
-    -- a node took it in this epoch
-    decider : SomeDecided epoch nodes
-    decider = some_decided epoch (come-now epoch refl)
-
-    away-by : (last : Final) (row : FrontRow) → p.row ≡ Some row → (st : FrontConn) → row.stage ≡ st → is_away epoch st ≡ true → StageSits row.epoch.0 own nodes st → Goes (Does (front_ends env p n epoch last row (next_epoch row)))
-    away-by last row found (stage.Offering m d) at away sits =
+    away-by : IsDecided epoch (nodes n).row → (last : Final) (row : FrontRow) → p.row ≡ Some row → (st : FrontConn) → row.stage ≡ st
+        → is_away epoch st ≡ true → StageSits row.epoch.0 own nodes st → Goes (Does (front_ends env p n epoch last row (next_epoch row)))
+    away-by decided last row found (stage.Offering m d) at away sits =
         let same : d.0 ≡ epoch = eqb-true d.0 epoch away in
         away-ends last row found m d (subst (StageKnown t) at (row-of row found).2) same (sym sits.1)
-        (there-epoch m row.epoch.0 own (nodes m).row (decided-there m row.epoch.0 own nodes sits.2 decider.0 sits.3 (subst (λ (e : ℕ). IsDecided e (nodes decider.0).row) (sym same ∙ sits.1) decider.1)))
-    away-by last row found (stage.Moved m d) at away sits =
+        (there-epoch m row.epoch.0 own (nodes m).row (decided-there m row.epoch.0 own nodes sits.2 n sits.3 (subst (λ (e : ℕ). IsDecided e (nodes n).row) (sym same ∙ sits.1) decided)))
+    away-by decided last row found (stage.Moved m d) at away sits =
         away-ends last row found m d (subst (StageKnown t) at (row-of row found).2) (eqb-true d.0 epoch away) (sym sits.1) (there-epoch m row.epoch.0 own (nodes m).row sits.3)
-    away-by last row found _ at away sits = let no : false ≡ true = away in absurd cc
+    away-by decided last row found _ at away sits = let no : false ≡ true = away in absurd cc
 
-    ended-row : (last : Final) (row : FrontRow) → p.row ≡ Some row → Goes (front_ended_by env p n epoch last (Some row) (end_answer epoch (Some row)))
-    ended-row last row found = go (is_away epoch row.stage) refl (ended_with epoch row.ended_by) where
+    ended-row : IsDecided epoch (nodes n).row → (last : Final) (row : FrontRow) → p.row ≡ Some row
+        → Goes (front_ended_by env p n epoch last (Some row) (end_answer epoch (Some row)))
+    ended-row decided last row found = go (is_away epoch row.stage) refl (ended_with epoch row.ended_by) where
       go : (a : Bool) → is_away epoch row.stage ≡ a → (b : Bool) → Goes (front_ended_by env p n epoch last (Some row) (cond a (New (next_epoch row)) (cond b Again Stale)))
-      go true e b = away-by last row found row.stage refl e (let at : Sits own nodes (Some row) = subst (Sits own nodes) found at_place.sits in at.0)
+      go true e b = away-by decided last row found row.stage refl e (let at : Sits own nodes (Some row) = subst (Sits own nodes) found at_place.sits in at.0)
       go false e true = let calm = stays-calm row found e in says-move (front_saying (ack_sent env n epoch)) [] calm.0 calm.1 refl refl ack-none tt
       go false e false = let calm = stays-calm row found e in drops-move calm.0 calm.1
 
-    ended-by : (last : Final) (o : Option FrontRow) → p.row ≡ o → Goes (front_ended_by env p n epoch last o (end_answer epoch o))
-    ended-by last None found = unknown-drops found
-    ended-by last (Some row) found = ended-row last row found
+    ended-by : IsDecided epoch (nodes n).row → (last : Final) (o : Option FrontRow) → p.row ≡ o
+        → Goes (front_ended_by env p n epoch last o (end_answer epoch o))
+    ended-by decided last None found = unknown-drops found
+    ended-by decided last (Some row) found = ended-row decided last row found
 
-    pub ended-move : (last : Final) → Goes (front_ended env p n epoch last)
-    ended-move last = ended-by last p.row refl
+    pub ended-move : IsDecided epoch (nodes n).row → (last : Final) → Goes (front_ended env p n epoch last)
+    ended-move decided last = ended-by decided last p.row refl
+
+    -- ---- a Refused comes
+
+    -- it was offered there, and is here again: it reads on in the same step
+    module _ (row : FrontRow) (parts : EndpointParts) (found : p.row ≡ Some row) (d : Epoch) (h : IsAway t n d.0) (same : d.0 ≡ epoch) (at : row.epoch.0 ≡ epoch) (early : IsOnceAway epoch)
+        (free : own.owner ≡ None) (behind : own.epoch + 1 ≡ epoch) (refused : is_among epoch (picked refused_in heads) ≡ true) where
+      abbrev next : List ℕ
+      next = (row.epoch.0 + 1) ∷ []
+
+      abbrev home : FrontRow
+      home = returned_row parts row
+
+      abbrev noted : List Rec
+      noted = back_notes env.serve.c row
+
+      abbrev back_then : Story
+      back_then = record u { took = true; away = false }
+
+      r : RowKnown t (Some row)
+      r = row-of row found
+
+      some-same : (e f : ℕ) → Some e ≡ Some f → e ≡ f
+      some-same e f is = cc
+
+      is-back : IsBack back_then
+      is-back = record { away = refl; back = λ e some. come-now e (sym same ∙ some-same d.0 e (sym h.epoch ∙ some)) }
+
+      first-now : first_takes t next ≡ first_syn t syn
+      first-now = ap (λ b. cond b [] next) r.0 ∙ taken-first r.1
+
+      back-now : later_takes t next ≡ first_back t es
+      back-now =
+          let one : is_among d.0 (epoch ∷ []) ≡ true = ap (λ b. b || false) (eq-eqb epoch d.0 (sym same)) in
+          let due : due_in t.epoch ≡ (d.0 + 1) ∷ [] = ap due_in h.epoch ∙ (λ i. cond (not (h.back i) && one i) ((d.0 + 1) ∷ []) []) in
+          ap (λ b. cond b next []) r.0 ∙ ap (λ (e : ℕ). (e + 1) ∷ []) (at ∙ sym same) ∙ sym (due-is ∙ due)
+
+      -- two epochs behind the one in which the front end gave it up
+      up-now : (part : FrontPart) (turn : FrontTurn) → AreNextUp x (move part turn) next
+      up-now part turn =
+          let gave : last_gave x.seen ≡ own.epoch = gave-last x at_place free in
+          let among : is_among epoch (picked refused_in (seen_in x (move part turn))) ≡ true =
+          ap (is_among epoch) (picked-append refused_in heads (map Row (rows_of x (move part turn))))
+          ∙ among-more epoch (picked refused_in heads) (picked refused_in (map Row (rows_of x (move part turn)))) refused in
+          let between : epoch ≡ last_gave x.seen + 1 = omega (arith, gave, behind) in
+          (inr (omega (arith, gave, behind, at), subst (λ (e : ℕ). is_among e (picked refused_in (seen_in x (move part turn))) ≡ true) between among), tt)
+
+      -- it goes on here, or ends
+      rests-back : (rest : FrontRest) (stays : ControlBlock → FrontConn) → ((b : ControlBlock) → StageKnown back_then (stays b))
+          → (given : Ending × Turn) (calls : List Call)
+          → Each IsStill given.1.notes → AllTo (Client env.serve.c) given.1.segments
+          → Goes (does_first noted [] (Does (record { part = front_rests (back_part p row parts) home rest stays given.0; turn = turn_here given.1; calls = calls })))
+      rests-back rest stays stay given calls notes to =
+          let part : FrontPart = front_rests (back_part p row parts) home rest stays given.0 in
+          let turn : FrontTurn = stands_first noted [] (turn_here given.1) in
+          turns-move part turn next [] [] [] back_then (record {
+            takes_are = ap (λ l. (row.epoch.0 + 1) ∷ l) (stills-took given.1.notes notes);
+            gives_are = refl;
+            firsts_are = stills-first given.1.notes notes;
+            forwards_are = refl;
+            to = subst (λ (c : ℕ). AllTo (Client c) given.1.segments) is.number to;
+            tells = still-all back_then given.1.notes notes;
+            first = first-now;
+            off = tt;
+            back = back-now;
+            up = up-now part turn;
+            forth = no-forth;
+            row = (refl, ap (λ b. b || syn) r.1, go given.0);
+            same_back = refl;
+            kept = without-kept p.kept known.kept;
+          }) where
+            go : (e : Ending) → StageKnown back_then (stage_after stays e)
+            go (ending.Here b count) = stay b
+            go (ending.Over last) = is-back
+
+      -- it is handed off again, in the epoch behind
+      hands-back : (s : Service) (path : List ℕ) (choice : FirstChoice) (calls : List Call) → Each IsStill s.notes
+          → Goes (does_first noted [] (Does (record { part = (handed_off env home s path choice).0; turn = (handed_off env home s path choice).1; calls = calls })))
+      hands-back s path choice calls notes =
+          let given : FrontPart × FrontTurn = handed_off env home s path choice in
+          let turn : FrontTurn = stands_first noted [] given.1 in
+          let e : ℕ = row.epoch.0 + 1 in
+          let more : List Rec = rec.Admitted env.serve.c ∷ rec.AssignedFirst env.serve.c (s.count + 1) path choice.node choice.add choice.remove ∷ [] in
+          let gone : Story = record back_then { node = Some choice.node; away = true; epoch = Some (e + 1) } in
+          let small : e + 1 < 2 ^ 16 = omega (arith, early, at) in
+          turns-move given.0 turn next (e ∷ []) (choice.node ∷ []) [] gone (record {
+            takes_are = ap (λ l. e ∷ l) (pick-append front_took s.notes more ∙ ap (λ l. l ++ []) (stills-took s.notes notes));
+            gives_are = refl;
+            firsts_are = pick-append first_node s.notes more ∙ ap (λ l. l ++ choice.node ∷ []) (stills-first s.notes notes);
+            forwards_are = ap (λ o. listed o ++ []) (not-forwarded choice.node env.serve.c (e + 1) (body.Offer _) (λ i. cc));
+            to = tt;
+            tells = ap (λ (v : Story). fold row_step v given.1.gave)
+                (fold-append row_step back_then s.notes more ∙ ap (λ (v : Story). fold row_step v more) (still-all back_then s.notes notes));
+            first = first-now;
+            off = inl (refl, spelled-head _ small);
+            back = back-now;
+            up = up-now given.0 turn;
+            forth = no-forth;
+            row = (refl, ap (λ b. b || syn) r.1, record { away = refl; epoch = refl; node = refl; back = never-among (e + 1) row found (omega arith) });
+            same_back = refl;
+            kept = ((e + 1, spelled-head _ small), tt);
+          })
+
+      placed-back : (rest : FrontRest) (s : Service) (path : List ℕ) (f : First) → Each IsStill s.notes
+          → Goes (does_first noted [] (Does (placed env (back_part p row parts) home rest s path f)))
+      placed-back rest s path (first.Go choice) notes = hands-back s path choice (call.First env.serve.c path env.now ∷ []) notes
+      placed-back rest s path first.Waits notes =
+          let w : Service = record s { notes = s.notes ++ rec.Waits env.serve.c ∷ [] } in
+          rests-back (record rest { target = Some path }) stage.Waiting (λ b. is-back) (spoken env.serve w []) (call.First env.serve.c path env.now ∷ leaves_by env.serve.c (spoken env.serve w []).0)
+          (Each-append IsStill s.notes (rec.Waits env.serve.c ∷ []) notes (tt, tt)) (spoken-to env.serve w [] tt)
+
+      settled-back : (rest : FrontRest) (s : Service) (o : Option (List ℕ)) → Each IsStill s.notes
+          → Goes (does_first noted [] (settled_by env (back_part p row parts) home rest s o))
+      settled-back rest s None notes =
+          let done = settled-is env.serve s in
+          rests-back rest stage.Held (λ b. is-back) (serving_settled env.serve s) [] (subst (Each IsStill) (sym done.notes) notes) done.to
+      settled-back rest s (Some path) notes = placed-back rest s path (env.first path) notes
+
+      reads-back : Goes (does_first noted [] (reads_on env p row parts))
+      reads-back =
+          let x0 : Reading = record { service = serving (adopted parts) parts.served []; target = None } in
+          let y : Reading = front_reads env.serve x0 in
+          settled-back (back_rest parts) y.service y.target (answers-still y.service.notes (reads-answers env.serve x0 tt))
+
+    -- what is known of a Refused: where the connection was offered in its epoch, it was offered to the node that says so and is nobody's, and the
+    -- Offer that is kept is read
+    pub record IsTurnedDown : Type 0 where
+      pub told : IsRefusalTold x.part n epoch
+      pub refused : is_among epoch (picked refused_in heads) ≡ true
+      pub parts : EndpointParts
+      pub read : parts_kept p.kept ≡ Some parts
+
+    module _ (down : IsTurnedDown) where
+      not-with : (st : FrontConn) → is_away epoch st ≡ false → is_with n epoch st ≡ false
+      not-with (stage.Offering m d) e = ap (λ b. (m == n) && b) e ∙ and-false (m == n)
+      not-with (stage.Moved m d) e = ap (λ b. (m == n) && b) e ∙ and-false (m == n)
+      not-with _ e = refl
+
+      abbrev Comes : FrontRow → Bool → Type 0
+      Comes row b = Goes (returned_by env p [] (Some row) (cond b (refused_answer epoch (Some row)) back.Stale) (parts_kept p.kept))
+
+      -- it is away in this epoch: so it was offered to that node
+      offered-here : (row : FrontRow) (st : FrontConn) → p.row ≡ Some row → row.stage ≡ st → is_away epoch st ≡ true → StageSits row.epoch.0 own nodes st
+          → Offers n epoch st
+      offered-here row st found at away sits = ⊎_elim
+          (λ (ended : HasEnded epoch p.row). absurd (let less : HasEnded epoch (Some row) = subst (HasEnded epoch) found ended in past st away sits less))
+          (λ (offered : IsOffered n epoch p.row). subst (Offers n epoch) at (subst (IsOffered n epoch) found offered))
+          down.told.1 where
+            past : (st : FrontConn) → is_away epoch st ≡ true → StageSits row.epoch.0 own nodes st → epoch < row.epoch.0 → ⊥
+            past (stage.Offering m d) away sits less = let same : d.0 ≡ epoch = eqb-true d.0 epoch away in let now = sits.1 in omega (arith, same, now, less)
+            past (stage.Moved m d) away sits less = let same : d.0 ≡ epoch = eqb-true d.0 epoch away in let now = sits.1 in omega (arith, same, now, less)
+            past _ away sits less = let no : false ≡ true = away in absurd cc
+
+      comes-here : (row : FrontRow) (d : Epoch) → p.row ≡ Some row → row.stage ≡ stage.Offering n d → d.0 ≡ epoch → Comes row (is_with n epoch row.stage)
+      comes-here row d found at same =
+          let sits : StageSits row.epoch.0 own nodes (stage.Offering n d) = subst (StageSits row.epoch.0 own nodes) at (subst (Sits own nodes) found at_place.sits).0 in
+          let now : row.epoch.0 ≡ epoch = sym sits.1 ∙ same in
+          let coming : IsComing epoch own (nodes n).row = coming-refused n epoch own (nodes n)
+          (subst (λ (e : ℕ). IsComing e own (nodes n).row ⊎ IsThere n e own (nodes n).row) now sits.3) down.told.0 in
+          let known_away : IsAway t n d.0 = subst (StageKnown t) at (row-of row found).2 in
+          let goes = reads-back row down.parts found d known_away same now (subst IsOnceAway now (early-at x at_place row found (stage.Offering n d) at)) coming.0 coming.1 down.refused in
+          let with : is_with n epoch row.stage ≡ true = ap (is_with n epoch) at ∙ (λ i. eq-eqb n n refl i && eq-eqb d.0 epoch same i) in
+          let to : offered_to epoch row.stage ≡ Some n = ap (offered_to epoch) at ∙ ap (λ b. cond b (Some n) None) (eq-eqb d.0 epoch same) in
+          subst Goes (sym ((λ i. returned_by env p [] (Some row) (cond (with i) (refused_answer epoch (Some row)) back.Stale) (down.read i))
+          ∙ (λ i. returned_by env p [] (Some row) (cond (is_some (to i)) (back.New (next_epoch row)) back.Stale) (Some down.parts)))) goes
+
+      comes-by : (row : FrontRow) → p.row ≡ Some row → (st : FrontConn) → row.stage ≡ st → Offers n epoch st → Comes row (is_with n epoch row.stage)
+      comes-by row found (stage.Offering m d) at offers = comes-here row d found (subst (λ (j : ℕ). row.stage ≡ stage.Offering j d) offers.0 at) offers.1
+      comes-by row found _ at offers = absurd offers
+
+      refused-row : (row : FrontRow) → p.row ≡ Some row → Comes row (is_with n epoch row.stage)
+      refused-row row found = go (is_away epoch row.stage) refl where
+        go : (a : Bool) → is_away epoch row.stage ≡ a → Comes row (is_with n epoch row.stage)
+        go false e = subst (Comes row) (sym (not-with row.stage e)) (let calm = stays-calm row found e in drops-move calm.0 calm.1)
+        go true e = comes-by row found row.stage refl (offered-here row row.stage found refl e (subst (Sits own nodes) found at_place.sits).0)
+
+      refused-by : (o : Option FrontRow) → p.row ≡ o → Goes (returned_by env p [] o (back_answer n epoch None o) (parts_kept p.kept))
+      refused-by None found = unknown-drops found
+      refused-by (Some row) found = refused-row row found
+
+      pub refused-move : Goes (front_returned env p n epoch None)
+      refused-move = refused-by p.row refl

@@ -2,7 +2,7 @@
 use Rattle.std.proofs.Common.{◌≡◌, ◌≢◌, ◌⊎◌, ◌+◌, ◌≤◌, ◌<◌, ◌^◌, ◌==◌, max, nat_lt, nat_eq, ℕ, Bool, true, false, cond, List, [], ◌∷◌, ◌++◌, map, Option, Some, None, inl, inr, ⊎_elim, refl, sym, ap, ◌∙◌, subst, arith, eqb-true, eq-eqb}
 use Rattle.std.proofs.lemmas.Bool.{both_ways, lt-ltb, ltb-true}
 use Rattle.std.proofs.lemmas.List.{map-append}
-use Rattle.lard_law_view.specs.Prelude.{Adopt, BackRow, Conn, ControlBlock, Ending, EndpointParts, IsEarlyAway, IsNodeEnv, Message, Move, Node, NodeDeed, NodeEnv, NodeGets, NodePart, Offered, Place, Rec, Seen, Setting, Stay, Turn, Work, after_timer, again_sent, all_sent, came_for, come_progress, ended_sent, epoch_in, goes_on, gone, is_no_node, kept_after, listed, named_records, node_does, node_offered, node_put_back, node_rule, node_saying, offer_answer, offered_by, on_segment, read_progress, reset_count, rows_of, seen_in, serving, serving_ready_of, serving_settled, spelled_message, spoken, tagged, taken_sent, tale_at, timed, timer_rows, turn_by, with_work, without, work_of}
+use Rattle.lard_law_view.specs.Prelude.{Adopt, BackRow, Conn, ControlBlock, Ending, EndpointParts, IsOnceAway, IsNodeEnv, Message, Move, Node, NodeDeed, NodeEnv, NodeGets, NodePart, Offered, Place, Rec, Seen, Setting, Stay, Turn, Work, after_timer, again_sent, all_sent, came_for, come_progress, ended_sent, epoch_in, goes_on, gone, is_no_node, kept_after, listed, named_records, node_does, node_offered, node_put_back, node_rule, node_saying, offer_answer, offered_by, on_segment, read_progress, reset_count, rows_of, seen_in, serving, serving_ready_of, serving_settled, spelled_message, spoken, tagged, taken_sent, tale_at, timed, timer_rows, turn_by, with_work, without, work_of}
 use Rattle.lard_base.specs.declared.place.TimerKind.TheVariants as timer
 use Rattle.lard_law_connections.specs.Motion.{EachIsTold, NodeEnds, Says as SaysIt, above}
 use Rattle.lard_law_connections.specs.MotionStory.{from_node, highest, node_gave_epoch, node_took, of_row, epoch_offered, picked}
@@ -100,7 +100,7 @@ module _ (k : Setting) (x : Conn) (at_place : IsPlaced x) (known : NodesKnown x)
   kept-late part work (ending.Over last) even = even
 
   -- what it gives up is told
-  gave-told : (part : NodePart) (before_sent : List (Place × List ℕ)) (work : Work) (given : Ending × Turn) → IsEarlyAway env.epoch
+  gave-told : (part : NodePart) (before_sent : List (Place × List ℕ)) (work : Work) (given : Ending × Turn) → IsOnceAway env.epoch
       → (let v : Move = node_does x n heads (Does (kept_after env part work given.0, turn_by env before_sent work given)) in IsItsOwn x v → NodeEnds n (seen_in x v))
   gave-told part before_sent work (ending.Here b count, turn) early mine =
       let v : Move = node_does x n heads (Does (kept_after env part work (ending.Here b count), turn_by env before_sent work (ending.Here b count, turn))) in
@@ -125,7 +125,7 @@ module _ (k : Setting) (x : Conn) (at_place : IsPlaced x) (known : NodesKnown x)
       let all : SaysIt h (picked (of_row (from_node n)) (seen_in x v)) = subst (SaysIt h) (sym (pick-seen (from_node n) x v)) (says-before h (picked (of_row (from_node n)) heads) (pick (from_node n) (rows_of x v)) rows) in
       subst (λ (l : List ℕ). EachIsTold l (picked (of_row (from_node n)) (seen_in x v))) (sym (seen-gave n x v mine first (env.epoch ∷ []) gave)) (inl all, tt)
 
-  turn-go : (part : NodePart) (before_sent : List (Place × List ℕ)) (work : Work) (given : Ending × Turn) (takes : List ℕ) → IsEven env.epoch → IsEarlyAway env.epoch → pick (node_took n) (named_records given.1.notes) ≡ takes
+  turn-go : (part : NodePart) (before_sent : List (Place × List ℕ)) (work : Work) (given : Ending × Turn) (takes : List ℕ) → IsEven env.epoch → IsOnceAway env.epoch → pick (node_took n) (named_records given.1.notes) ≡ takes
       → (is_no_node k.nodes n ≡ false → takes ≡ above before (picked (epoch_offered n) heads)) → max before (highest takes) ≡ env.epoch
       → AreNextUp x (node_does x n heads (Does (kept_after env part work given.0, turn_by env before_sent work given))) takes → Goes (Does (kept_after env part work given.0, turn_by env before_sent work given))
   turn-go part before_sent work given takes even early took due then up help =
@@ -146,7 +146,7 @@ module _ (k : Setting) (x : Conn) (at_place : IsPlaced x) (known : NodesKnown x)
   -- its stay is of this epoch
   record IsHere : Type 0 where
     even : IsEven env.epoch
-    early : IsEarlyAway env.epoch
+    early : IsOnceAway env.epoch
     now : epoch_in ours ≡ env.epoch
 
   is-here : (b : ControlBlock) (s : Stay) → IsHereWith env.epoch ours b s → IsHere
@@ -241,7 +241,7 @@ module _ (k : Setting) (x : Conn) (at_place : IsPlaced x) (known : NodesKnown x)
 
     -- where it is new it is offered, in an early epoch of nodes
     abbrev IsAwayNow : Type 0
-    IsAwayNow = IsEven env.epoch × IsEarlyAway env.epoch
+    IsAwayNow = IsEven env.epoch × IsOnceAway env.epoch
 
     undecided-offered : (IsDecided env.epoch ours.row → ⊥) → IsOffered n env.epoch x.part.front.row
     undecided-offered other = ⊎_elim (λ (d : IsDecided env.epoch ours.row). absurd (other d)) (λ (o : IsOffered n env.epoch x.part.front.row). o) said

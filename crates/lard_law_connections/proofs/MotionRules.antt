@@ -1,28 +1,30 @@
 -- Each rule keeps what is known of a connection's way, and moves it as it must be moved.
-use Rattle.std.proofs.Common.{◌≡◌, ◌≢◌, ◌⊎◌, ◌||◌, ℕ, Bool, true, false, cond, List, [], ◌∷◌, ◌++◌, map, Option, Some, None, Result, Ok, Err, refl, sym, ap, ◌∙◌, subst, nat_eq, append-nil, ◌==◌, eqb-true}
+use Rattle.std.proofs.Common.{◌≡◌, ◌≢◌, ◌⊎◌, ◌||◌, ℕ, Bool, true, false, cond, List, [], ◌∷◌, ◌++◌, map, Option, Some, None, Result, Ok, Err, refl, sym, ap, ◌∙◌, subst, nat_eq, append-nil, ◌==◌, ◌≤◌, arith, eq-eqb, eqb-true, ⊎_elim}
 use Rattle.std.proofs.lemmas.Bool.{both_ways}
 use Rattle.std.proofs.lemmas.List.Folds.{list_any-append}
 use Rattle.lard_base.specs.declared.event.Event.TheVariants as event
-use Rattle.lard_law_view.specs.Prelude.{AskedBy, BackRow, Client, ClientBlock, ClientRules, Completed, Conn, Content, EndedBy, Fires, Forwarded, Front, FrontAdmits, FrontEnv, FrontFires, FrontGets, FrontHears, IsForFront, IsForNode, IsFrontEnv, IsNobody, IsNodeEnv, IsUnheard, Kind, MayRestOn, Message, Move, MsgFault, Node, NodeEnv, NodeGets, Offered, Place, Rec, Row, Rules, Said as Segment, Seen, SegFault, Setting, Station, ToCluster, Turn, Was, client_begins, client_does, client_injects, client_opens, client_rule, content_said, decoded, decoded_message, event_seen, front_does, front_rule, inject_seen, is_no_node, kind_of, letter, listed, node_does, node_read, node_rule, nothing_said, packet_seen, reads_first, rows_of, seen_in, stands}
+use Rattle.lard_law_view.specs.Prelude.{AskedBy, BackRow, Client, ClientBlock, ClientRules, Completed, Conn, Content, EndedBy, EndpointParts, Fires, Forwarded, Front, FrontAdmits, FrontConn, FrontEnv, FrontFires, FrontGets, FrontHears, FrontRow, IsForFront, IsForNode, IsFrontEnv, IsNobody, IsNodeEnv, IsUnheard, Kind, MayRestOn, Message, Move, MsgFault, Node, NodeEnv, NodeGets, Offered, Place, Rec, ReturnedBy, Row, Rules, Said as Segment, Seen, SegFault, Setting, SpellsMessage, Station, ToCluster, Turn, Was, client_begins, client_does, client_injects, client_opens, client_rule, content_said, decoded, decoded_message, event_seen, front_does, front_rule, inject_seen, is_no_node, kind_of, letter, listed, node_does, node_read, node_rule, nothing_said, packet_seen, reads_first, rows_of, seen_in, stands, tale_at}
 use Rattle.lard_law_view.proofs.EachClient.{client_seen, each-client, of-client}
 use Rattle.lard_law_view.proofs.EachFront.{FrontComes, admission, each-front, of-front}
 use Rattle.lard_law_connections.specs.Motion.{EachIsTold, above}
-use Rattle.lard_law_connections.specs.MotionStory.{Story, decoded_bytes, epoch_if, epoch_offered, from_node, highest, is_among, is_back, is_offer, is_syn, node_took, of_row, offer_on, picked, segment_on, story, syn_on, told_of}
-use Rattle.lard_law_connections.proofs.MotionElsewhere.{Helps, IsBare, IsKnown, IsNotOfClient, Moves, SomeDecided, else-moves, machine-letters, quiet-moves}
+use Rattle.lard_law_connections.specs.MotionStory.{Story, decoded_bytes, epoch_if, epoch_offered, from_node, highest, is_among, is_back, is_offer, is_refused, is_syn, node_took, of_row, offer_on, picked, refused_in, segment_on, story, syn_on, told_of}
+use Rattle.lard_law_connections.proofs.MotionElsewhere.{Helps, IsBare, IsKnown, IsNoLater, IsNotOfClient, Moves, else-moves, machine-letters, quiet-moves}
 use Rattle.lard_law_connections.proofs.MotionFronts as fronts
 use Rattle.lard_law_connections.proofs.MotionComings.{Heads}
 use Rattle.lard_law_connections.proofs.MotionNodes.{IsFirst, NodesGo, NodesKnown, NodesMove, max-none, nodes-go, seen-gave, other-at, quiet-at, seen-offers, seen-took}
 use Rattle.lard_law_connections.proofs.MotionNodeTurns as turns
 use Rattle.lard_law_view.proofs.NodeHeads.{of-heads}
 use Rattle.lard_law_connections.proofs.MotionPicking.{IsApart, or-false, pick, picked-append}
-use Rattle.lard_law_connections.specs.Places.{IsDecided, IsOffered, IsOver, LetterMay, MaySay, NodeSaid}
-use Rattle.lard_law_connections.proofs.PlacesFrontMessages.{came-says}
+use Rattle.lard_law_connections.specs.Places.{HasEnded, IsComing, IsDecided, IsOffered, IsOver, IsPast, IsRefusalTold, IsThere, Offers, Owning, Sits, StageSits, owning}
+use Rattle.lard_law_connections.proofs.PlacesFrontMessages.{came-says, no-give, offer-says}
 use Rattle.lard_law_connections.proofs.PlacesFrontRules.{has-each}
-use Rattle.lard_law_connections.proofs.PlacesHeads.{decoded-head}
-use Rattle.lard_law_connections.proofs.PlacesTurns.{IsPlaced, Owes}
+use Rattle.lard_law_connections.proofs.PlacesNodeRules.{by-node}
+use Rattle.lard_law_connections.proofs.PlacesTurns.{IsPlaced, Owes, no-refusal}
 use Rattle.lard_law_view.proofs.EachNode.{Answers, Aside, Brings, NodeComes, Queues, aside_said, aside_seen, each-node, job_notes, node_goes, told_first}
 use Rattle.lard_law_view.proofs.Fine.{IsItsOwn}
 use Rattle.lard_rules.specs.Front as front
+use Rattle.lard_rules.specs.Front.{parts_kept}
+use Rattle.lard_handoff_front.specs.declared.row.FrontConn.TheVariants as stage
 use Rattle.lard_history.proofs.Each.{Each, Each-append}
 use Rattle.lard_history.proofs.Seeing.{other_number, same_number}
 use Rattle.lard_journal.specs.declared.rec.Rec.TheVariants as rec
@@ -115,26 +117,84 @@ module _ (x : Conn) where
   calm-heads env heads (AskedBy n epoch ask) calm comes =
       subst (λ (hs : List Seen). Heads x hs false [] []) (sym comes.told.seen) (message-heads n comes.told.bytes None (ap (epoch_if is_back) comes.told.spells))
   calm-heads env heads (EndedBy n epoch last) calm comes = absurd calm
+  calm-heads env heads (ReturnedBy n epoch given) calm comes = absurd calm
   calm-heads env heads (FrontAdmits choice given) calm comes = subst (λ (hs : List Seen). Heads x hs false [] []) (sym comes.seen) no-heads
   calm-heads env heads g calm comes =
       subst (λ (hs : List Seen). Heads x hs false [] []) (sym comes.seen) (message-heads _ comes.bytes None (ap (epoch_if is_back) comes.spells))
 
-  -- each epoch in which it came back is one in which a node took it
-  still-decided : (known : IsKnown x) (e : ℕ) → is_among e (t.back ++ []) ≡ true → SomeDecided e x.part.nodes
-  still-decided known e among = known.back e (ap (is_among e) (sym (append-nil t.back)) ∙ among)
+  -- each epoch in which it came back is one that the front end reached
+  still-reached : (known : IsKnown x) (e : ℕ) → is_among e (t.back ++ []) ≡ true → IsNoLater e x.part.front.row
+  still-reached known e among = known.back e (ap (is_among e) (sym (append-nil t.back)) ∙ among)
 
   over-decided : (e : ℕ) (o : Option BackRow) → IsOver e o → IsDecided e o
   over-decided e None h = h
   over-decided e (Some row) h = h.0
 
-  also-decided : (known : IsKnown x) (n epoch : ℕ) → IsOver epoch (x.part.nodes n).row
-      → (e : ℕ) → is_among e (t.back ++ epoch ∷ []) ≡ true → SomeDecided e x.part.nodes
-  also-decided known n epoch over e among = go (is_among e t.back) refl (epoch == e) refl
+  also-reached : (known : IsKnown x) (epoch : ℕ) → IsNoLater epoch x.part.front.row → (e : ℕ) → is_among e (t.back ++ epoch ∷ []) ≡ true
+      → IsNoLater e x.part.front.row
+  also-reached known epoch now e among = go (is_among e t.back) refl (epoch == e) refl
       (sym (list_any-append (λ d. d == e) t.back (epoch ∷ [])) ∙ among) where
-        go : (a : Bool) → is_among e t.back ≡ a → (b : Bool) → (epoch == e) ≡ b → a || (b || false) ≡ true → SomeDecided e x.part.nodes
+        go : (a : Bool) → is_among e t.back ≡ a → (b : Bool) → (epoch == e) ≡ b → a || (b || false) ≡ true → IsNoLater e x.part.front.row
         go true f b g h = known.back e f
-        go false f true g h = (n, subst (λ (d : ℕ). IsDecided d (x.part.nodes n).row) (eqb-true epoch e g) (over-decided epoch (x.part.nodes n).row over))
+        go false f true g h = subst (λ (d : ℕ). IsNoLater d x.part.front.row) (eqb-true epoch e g) now
         go false f false g h = let no : false ≡ true = h in absurd cc
+
+  -- a node is at most in the epoch of the front end
+  module _ (placed : IsPlaced x) (n epoch : ℕ) where
+    abbrev own : Owning
+    own = owning (tale_at x)
+
+    past-reached : (d : ℕ) (o : Option BackRow) → IsPast d o → IsDecided epoch o → epoch ≤ d
+    past-reached d None past h = absurd h
+    past-reached d (Some row) past h = omega (arith, past.0, h)
+
+    there-reached : (m d : ℕ) (o : Option BackRow) → IsThere m d own o → IsDecided epoch o → epoch ≤ d
+    there-reached m d None there h = absurd h
+    there-reached m d (Some row) there h = let same = there.0 in omega (arith, same, h)
+
+    stage-reached : (e : ℕ) (st : FrontConn) → StageSits e own x.part.nodes st → IsDecided epoch (x.part.nodes n).row → epoch ≤ e
+    stage-reached e (stage.Held b) s h = past-reached e (x.part.nodes n).row (s.1.1 n) h
+    stage-reached e (stage.Waiting b) s h = past-reached e (x.part.nodes n).row (s.1.1 n) h
+    stage-reached e stage.Lent s h = absurd s
+    stage-reached e (stage.Offering m d) s h = by-node m n (epoch ≤ e)
+        (λ same. let at : IsDecided epoch (x.part.nodes m).row = subst (λ (j : ℕ). IsDecided epoch (x.part.nodes j).row) same h in ⊎_elim
+        (λ (coming : IsComing e own (x.part.nodes m).row). past-reached e (x.part.nodes m).row coming.2 at)
+        (λ (there : IsThere m e own (x.part.nodes m).row). there-reached m e (x.part.nodes m).row there at) s.3)
+        (λ other. past-reached e (x.part.nodes n).row (s.2 n other) h)
+    stage-reached e (stage.Moved m d) s h = by-node m n (epoch ≤ e)
+        (λ same. there-reached m e (x.part.nodes m).row s.3 (subst (λ (j : ℕ). IsDecided epoch (x.part.nodes j).row) same h))
+        (λ other. past-reached e (x.part.nodes n).row (s.2 n other) h)
+    stage-reached e (stage.Closed last) s h = past-reached e (x.part.nodes n).row (s.1.1 n) h
+
+    row-reached : (o : Option FrontRow) → Sits own x.part.nodes o → IsDecided epoch (x.part.nodes n).row → IsNoLater epoch o
+    row-reached None h decided = let le : epoch ≤ 0 = past-reached 0 (x.part.nodes n).row (h.1 n) decided in absurd (none-at (x.part.nodes n).row (h.1 n) decided) where
+      none-at : (o : Option BackRow) → IsPast 0 o → IsDecided epoch o → ⊥
+      none-at None past h = h
+      none-at (Some row) past h = omega (arith, past.0, h)
+    row-reached (Some row) h decided = stage-reached row.epoch.0 row.stage h.0 decided
+
+    -- so where one took it in this epoch, or refused it, the front end reached that
+    pub decided-reached : IsDecided epoch (x.part.nodes n).row → IsNoLater epoch x.part.front.row
+    decided-reached decided = row-reached x.part.front.row placed.sits decided
+
+    told-row : (o : Option FrontRow) → Sits own x.part.nodes o → HasEnded epoch o ⊎ IsOffered n epoch o → IsNoLater epoch o
+    told-row None h told = absurd (⊎_elim (λ (e : ⊥). e) (λ (e : ⊥). e) told)
+    told-row (Some row) h told = ⊎_elim (λ (ended : HasEnded epoch (Some row)). omega (arith, ended)) (λ (offered : IsOffered n epoch (Some row)). go row.stage h.0 offered) told where
+      go : (st : FrontConn) → StageSits row.epoch.0 own x.part.nodes st → Offers n epoch st → epoch ≤ row.epoch.0
+      go (stage.Offering m d) s o = let now = s.1 in let same = o.1 in omega (arith, now, same)
+      go _ s o = absurd o
+
+    pub told-reached : IsRefusalTold x.part n epoch → IsNoLater epoch x.part.front.row
+    told-reached told = told-row x.part.front.row placed.sits told.1
+
+  -- INTERIM: the Offer that is kept is read, while it is offered
+  offer-read : IsPlaced x → (n epoch : ℕ) → IsRefusalTold x.part n epoch → (parts : EndpointParts) × (parts_kept x.part.front.kept ≡ Some parts)
+  offer-read placed n epoch told = absurd (no-refusal x placed n epoch told.0)
+
+  refused-heads : (n epoch : ℕ) (bytes : List ℕ) → SpellsMessage x.c epoch body.Refused bytes
+      → is_among epoch (picked refused_in (packet_seen (Node n) Front bytes)) ≡ true
+  refused-heads n epoch bytes spells =
+      ap (λ r. is_among epoch (listed (epoch_if is_refused r) ++ [])) spells ∙ ap (λ b. b || false) (eq-eqb epoch epoch refl)
 
 module _ (k : Setting) (x : Conn) where
   -- the nodes are as they were
@@ -147,20 +207,34 @@ module _ (k : Setting) (x : Conn) where
       → Helps x (front_does x heads (front_rule env x.part.front g)) → Moves x (front_does x heads (front_rule env x.part.front g))
   front-moves env is heads (FrontHears bytes (Err fault)) comes may way = fronts.nothing-drops k x may.given way.front heads false [] []
       (subst (λ (hs : List Seen). Heads x hs false [] []) (sym comes.seen) (segment-heads x bytes (Err fault) (sym comes.read)))
-      env is (still-decided x way.front) refl refl refl
+      env is (still-reached x way.front) refl refl refl
   front-moves env is heads (FrontHears bytes (Ok s)) comes may way = fronts.hears-move k x may.given way.front heads (is_syn (Ok s)) [] (bytes ∷ [])
       (subst (λ (hs : List Seen). Heads x hs (is_syn (Ok s)) [] (bytes ∷ [])) (sym comes.seen) (segment-heads x bytes (Ok s) (sym comes.read)))
-      env is (still-decided x way.front)
+      env is (still-reached x way.front)
       refl bytes refl s refl x.part.front.row refl
   front-moves env is heads (EndedBy n epoch last) comes may way =
       let e = comes.told in
+      let decided : IsDecided epoch (x.part.nodes n).row = over-decided x epoch (x.part.nodes n).row
+      (came-says x (Node n) Front epoch (body.Ended last.reason last.snd.0 last.rcv.0 comes.count) e.bytes may.given.letters e.was e.spells) in
       fronts.ended-move k x may.given way.front heads false (epoch ∷ []) []
       (subst (λ (hs : List Seen). Heads x hs false (epoch ∷ []) []) (sym e.seen) (message-heads x n e.bytes (Some epoch) (ap (epoch_if is_back) e.spells))) env is
-      (also-decided x way.front n epoch (came-says x (Node n) Front epoch (body.Ended last.reason last.snd.0 last.rcv.0 comes.count)
-      e.bytes may.given.letters e.was e.spells))
-      n epoch refl refl refl last
+      (also-reached x way.front epoch (decided-reached x may.given n epoch decided))
+      n epoch refl refl refl decided last
+  front-moves env is heads (ReturnedBy n epoch None) comes may way =
+      let told : IsRefusalTold x.part n epoch = came-says x (Node n) Front epoch body.Refused comes.bytes may.given.letters comes.was comes.spells in
+      let read = offer-read x may.given n epoch told in
+      fronts.refused-move k x may.given way.front heads false (epoch ∷ []) []
+      (subst (λ (hs : List Seen). Heads x hs false (epoch ∷ []) []) (sym comes.seen) (message-heads x n comes.bytes (Some epoch) (ap (epoch_if is_back) comes.spells))) env is
+      (also-reached x way.front epoch (told-reached x may.given n epoch told))
+      n epoch refl refl refl (record {
+        told = told;
+        refused = subst (λ (hs : List Seen). is_among epoch (picked refused_in hs) ≡ true) (sym comes.seen) (refused-heads x n epoch comes.bytes comes.spells);
+        parts = read.0;
+        read = read.1;
+      })
+  front-moves env is heads (ReturnedBy n epoch (Some parts)) comes may way = absurd (no-give x may.given n epoch parts comes.bytes comes.was comes.spells)
   front-moves env is heads g comes may way = fronts.rule-move k x may.given way.front heads false [] [] (calm-heads x env heads g tt comes) env is
-      (still-decided x way.front) refl refl refl g tt (admission x env heads g comes)
+      (still-reached x way.front) refl refl refl g tt (admission x env heads g comes)
 
   no-offers-here : (from : Place) (bytes : List ℕ) (n : ℕ) → picked (epoch_offered n) (packet_seen from Front bytes) ≡ []
   no-offers-here Front bytes n = refl
@@ -262,7 +336,7 @@ module _ (k : Setting) (x : Conn) (n : ℕ) where
           (ap (picked (epoch_offered n)) comes.seen ∙ this-hears comes.bytes (Some epoch) (ap (epoch_if is_offer) comes.spells)
           ∙ ap (λ (e : ℕ). e ∷ []) (sym is.epoch_is))
           (subst (λ (e : ℕ). IsDecided e (x.part.nodes n).row ⊎ IsOffered n e x.part.front.row) (sym is.epoch_is)
-          (came-says x Front (Node n) epoch (body.Offer parts) comes.bytes may.given.letters comes.was comes.spells)) help
+          (offer-says x may.given n epoch parts comes.bytes comes.was comes.spells)) help
       goes-nodes (Completed r path) at comes help =
           let d : node.NodeDeed = node_read env (x.part.nodes n) r in
           read-nodes r path (node_does x n heads d) (heads-at d ∙ comes)
@@ -306,34 +380,31 @@ module _ (k : Setting) (x : Conn) (n : ℕ) where
 -- ---- a packet that no rule hears
 
 module _ (k : Setting) (x : Conn) (from to : Place) (bytes : List ℕ) where
-  -- What brings a connection back is an Ended, since no node says anything else of it.
-  only-ended : IsPlaced x → (n : ℕ) → Was x (Node n) Front bytes → (m : Message) → decoded_message bytes ≡ Ok m → is_back (kind_of m.body) ≡ true → kind_of m.body ≡ kind.Ended
-  only-ended placed n was m is back =
-      of-kind (kind_of m.body) back (subst (MaySay x.part (Node n) Front) (decoded-head bytes m is) (has-each (LetterMay x.part) (record { from = Node n; to = Front; bytes = bytes }) x.letters was placed.letters)) where
-        of-kind : (k : Kind) → is_back k ≡ true → NodeSaid (x.part.nodes n).row m.epoch.0 k → k ≡ kind.Ended
-        of-kind kind.Ended back said = refl
-        of-kind kind.Refused back said = absurd said
-        of-kind kind.Give back said = absurd said
-        of-kind _ back said = let no : false ≡ true = back in absurd cc
+  -- what brings a connection back is heard
+  heard-back : (k : Kind) → is_back k ≡ true → IsForFront k
+  heard-back kind.Ended back = tt
+  heard-back kind.Refused back = tt
+  heard-back kind.Give back = tt
+  heard-back _ back = let no : false ≡ true = back in absurd cc
 
   -- so what is not heard does not bring it back
-  none-comes : IsPlaced x → (n : ℕ) → Was x (Node n) Front bytes → ((m : Message) → decoded_message bytes ≡ Ok m → IsForFront (kind_of m.body) → ⊥) → epoch_if is_back (decoded_message bytes) ≡ None
-  none-comes placed n was other = go (decoded_message bytes) refl where
+  none-comes : ((m : Message) → decoded_message bytes ≡ Ok m → IsForFront (kind_of m.body) → ⊥) → epoch_if is_back (decoded_message bytes) ≡ None
+  none-comes other = go (decoded_message bytes) refl where
     by-kind : (m : Message) → decoded_message bytes ≡ Ok m → (b : Bool) → is_back (kind_of m.body) ≡ b → cond b (Some m.epoch.0) None ≡ None
-    by-kind m e true back = absurd (other m e (subst IsForFront (sym (only-ended placed n was m e back)) tt))
+    by-kind m e true back = absurd (other m e (heard-back (kind_of m.body) back))
     by-kind m e false back = refl
 
     go : (r : Result Message MsgFault) → decoded_message bytes ≡ r → epoch_if is_back r ≡ None
     go (Err fault) e = refl
     go (Ok m) e = by-kind m e (is_back (kind_of m.body)) refl
 
-  unheard-apart : IsPlaced x → IsKnown x → Was x from to bytes → IsUnheard k.nodes x.part.station from to bytes → Each (IsApart x.c) (packet_seen from to bytes)
-  unheard-apart placed known was unheard = (one from to was unheard, tt) where
+  unheard-apart : IsKnown x → Was x from to bytes → IsUnheard k.nodes x.part.station from to bytes → Each (IsApart x.c) (packet_seen from to bytes)
+  unheard-apart known was unheard = (one from to was unheard, tt) where
     one : (from to : Place) → Was x from to bytes → IsUnheard k.nodes x.part.station from to bytes → (segment_on x.c from to bytes ≡ None) × (syn_on x.c from to bytes ≡ false) × (told_of is_back from to bytes ≡ None)
     one (Client d) Front w none = absurd (has-each IsNotOfClient (record { from = Client d; to = Front; bytes = bytes }) x.letters w (known.fresh none))
     one (Client d) (Client e) w u = (refl, refl, refl)
     one (Client d) (Node m) w u = (refl, refl, refl)
-    one (Node n) Front w u = (refl, refl, none-comes placed n w u)
+    one (Node n) Front w u = (refl, refl, none-comes u)
     one (Node n) (Client e) w u = (refl, refl, refl)
     one (Node n) (Node m) w u = (refl, refl, refl)
     one Front Front w u = (refl, refl, refl)
@@ -371,7 +442,7 @@ module _ (k : Setting) (x : Conn) (from to : Place) (bytes : List ℕ) where
       let v : Move = stands x to (packet_seen from to bytes) nothing_said in
       let known : IsKnown x = way.front in (
         quiet-moves x v help known (record {
-          heads = unheard-apart help.placed known was.0 was.2;
+          heads = unheard-apart known was.0 was.2;
           bare = (tt, tt);
           notes = tt;
           gave = tt;

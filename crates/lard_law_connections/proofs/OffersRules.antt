@@ -1,14 +1,16 @@
 -- What each rule of the front end says, where its connection agrees.
+use Rattle.lard_law_connections.proofs.PlacesFrontMessages.{no-give}
 use Rattle.lard_law_connections.proofs.PlacesTurns.{IsPlaced}
-use Rattle.std.proofs.Common.{◌≡◌, ◌≤◌, ◌^◌, ℕ, List, [], ◌∷◌, map, Some, refl, sym, subst, inl}
+use Rattle.std.proofs.Common.{◌≡◌, ◌≤◌, ◌^◌, ℕ, List, [], ◌∷◌, map, Option, Some, None, refl, sym, subst, inl}
 use Rattle.std.specs.List.{fold}
-use Rattle.lard_law_view.specs.Prelude.{AreSent, Client, Conn, FilesAt, Front, FrontConn, FrontDeed, FrontEnv, FrontGets, FrontPart, FrontRow, FrontRules, IsConnNumber, IsConnSound, IsFrontEnv, Kept, Move, Node, Place, Said, Seen, Setting, Station, Talk, Verdict, Was, fires_at, front_begun, front_does, front_rest, front_rule, hears_at, holds, placed, seen_step, sent_of, serving, serving_settled, tale_at, tale_step, told_on}
+use Rattle.lard_law_view.specs.Prelude.{AreSent, Client, Conn, EndpointParts, FilesAt, Front, FrontConn, FrontDeed, FrontEnv, FrontGets, FrontPart, FrontRow, FrontRules, IsConnNumber, IsConnSound, IsFrontEnv, Kept, Move, Node, Place, Said, Seen, Setting, Station, Talk, Verdict, Was, back_part, back_rest, does_first, fires_at, front_begun, front_does, front_rest, front_rule, given_sent, hears_at, holds, placed, returned_row, seen_step, sent_of, serving, serving_settled, tale_at, tale_step, told_on}
 use Rattle.lard_law_connections.specs.BytesAgreement.{IsOpen, IsTruthful}
 use Rattle.lard_law_connections.specs.BytesKeeping.{FrontDeedKeeps, IsFrontTalk}
 use Rattle.lard_law_connections.proofs.BytesClientMoves.{open-at}
 use Rattle.lard_law_connections.proofs.BytesFrontMessages.{where-opened}
 use Rattle.lard_law_connections.proofs.BytesFrontMoves.{rule-agrees, talk-of}
-use Rattle.lard_law_connections.proofs.BytesFronts.{IsOurs, RowIsOurs}
+use Rattle.lard_law_connections.proofs.BytesFronts.{CameBack, IsOurs, RowIsOurs}
+use Rattle.lard_law_connections.proofs.BytesReturns.{refused-keeps}
 use Rattle.lard_law_connections.proofs.BytesTold.{Bytes, bytes_of}
 use Rattle.lard_law_connections.proofs.OffersParts.{Tells}
 use Rattle.lard_law_connections.proofs.OffersSaying.{AllMayGo, AreSaid, MayGo, handed-says, other-goes, replies-go}
@@ -19,8 +21,8 @@ use Rattle.lard_rules.specs.Front.{Does, Drops, Says, message}
 use Rattle.lard_handoff_front.specs.declared.row.FrontConn.TheVariants as stage
 use Rattle.lard_history.proofs.Each.{Each}
 use Rattle.lard_message.specs.declared.message.Body.TheVariants as body
-use Rattle.lard_law_view.proofs.EachFront.{FrontComes, admission, each-front, of-front}
-use Rattle.lard_rules.proofs.FrontCases.{IsInStage, KeptByFront, KeptBySegment, front-keeps, hands_off}
+use Rattle.lard_law_view.proofs.EachFront.{FrontComes, HasBack, admission, each-front, of-front}
+use Rattle.lard_rules.proofs.FrontCases.{IsBack, IsInStage, KeptByFront, KeptByReturn, KeptBySegment, front-keeps, hands_off}
 
 -- what a move says
 abbrev pub SaysTruth : FilesAt → Conn → Move → Type 0
@@ -70,11 +72,11 @@ module _ (k : Setting) (small : k.stream ≤ 2 ^ 30) (x : Conn) (number : IsConn
     -- ---- a segment
 
     module _ (bytes : List ℕ) (sd : Said) where
-      by-segment : KeptBySegment env p bytes sd (λ w o. Unit {0}) Tells_so
+      by-segment : KeptBySegment env p bytes sd (CameBack env l.w l.out l.vs l.was_reset p) Tells_so
       by-segment = record {
         drops = λ keeps. (tt, tt);
         begins = λ none plain keeps. mute-speaks (front_begun env p sd) refl (keeps (subst RowIsOurs (sym none) tt));
-        reads = λ row b at. tt;
+        reads = λ row b at away. absurd (away (ours row (stage.Held b) at tt));
         holds = λ row b w at r keeps. mute-speaks (holds p row (front_rest p.rest) (serving_settled env.serve w)) refl (keeps (ours row (stage.Held b) at tt));
         hands = λ row b w path choice at r is keeps.
             let d : FrontDeed = Does (placed env p row (front_rest p.rest) w path (first.Go choice)) in
@@ -101,10 +103,34 @@ module _ (k : Setting) (small : k.stream ≤ 2 ^ 30) (x : Conn) (number : IsConn
     ack-goes : (b : Bytes) (n c e : ℕ) → MayGo k.files x b Front (Node n) (message c e body.EndedAck)
     ack-goes b n c e = other-goes k.files x b n c e body.EndedAck (λ none. none)
 
+    given-goes : (b : Bytes) (n c e : ℕ) → MayGo k.files x b Front (Node n) (message c e body.Given)
+    given-goes b n c e = other-goes k.files x b n c e body.Given (λ none. none)
+
+    -- ---- a connection that comes back
+
+    by-return : IsPlaced x → (n epoch : ℕ) (given : Option EndpointParts) → HasBack x n epoch given heads → (row : FrontRow) (parts : EndpointParts)
+        → IsBack p n epoch given row parts
+        → KeptByReturn env p (given_sent env.serve.c n epoch given) row parts (CameBack env l.w l.out l.vs l.was_reset p) Tells_so
+    by-return at_place n epoch (Some q) comes row parts back = absurd (no-give x at_place n epoch q comes.bytes comes.was comes.spells)
+    by-return at_place n epoch None comes row parts back =
+        let q : FrontPart = back_part p row parts in
+        let r : FrontRow = returned_row parts row in
+        let kept = refused-keeps k small x s there env is l pend o talk number at_place n epoch heads comes row parts back in
+        record {
+          reads = kept.reads;
+          holds = λ v came keeps. mute-speaks (does_first [] [] (holds q r (back_rest parts) (serving_settled env.serve v))) refl (kept.holds v came);
+          hands = λ v path choice came is keeps.
+              let d : FrontDeed = does_first [] [] (Does (placed env q r (back_rest parts) v path (first.Go choice))) in
+              handed-says k.files x number l.w l.out l.vs l.was_reset talk.stream (tale_before x (front_does x heads d)) (told d) env r v path choice
+              (kept.hands v path choice came is);
+          waits = λ v path came is keeps.
+              mute-speaks (does_first [] [] (Does (placed env q r (back_rest parts) v path first.Waits))) refl (kept.waits v path came is);
+        }
+
     -- ---- whatever comes
 
-    pub by-rules : AreSent x Front p.kept → KeptByFront env p (λ g. Unit {0}) (λ w o. Unit {0}) Tells_so
-    by-rules sent = record {
+    pub by-rules : IsPlaced x → AreSent x Front p.kept → KeptByFront env p (FrontComes x env heads) (CameBack env l.w l.out l.vs l.was_reset p) Tells_so
+    by-rules at_place sent = record {
       drops = λ keeps. (tt, tt);
       hears = λ bytes sd m. by-segment bytes sd;
       fires = λ m. record {
@@ -118,6 +144,8 @@ module _ (k : Setting) (small : k.stream ≤ 2 ^ 30) (x : Conn) (number : IsConn
       assigns_next = λ n epoch ask m rest found there next keeps. (tt, (tag-goes _ n env.serve.c epoch ask.number _, tt));
       ends_again = λ n epoch last m row found away again keeps. (tt, (ack-goes _ n env.serve.c epoch, tt));
       ends = λ n epoch last m row found away keeps. (tt, (ack-goes _ n env.serve.c epoch, tt));
+      gives_again = λ n epoch parts m row found past keeps. (tt, (given-goes _ n env.serve.c epoch, tt));
+      returns = by-return at_place;
       admits = λ choice made met row b path at target keeps.
           handed-says k.files x number l.w l.out l.vs l.was_reset talk.stream
           (tale_before x (front_does x heads (hands_off env row (serving b (front_rest p.rest).count []) path choice [])))
@@ -132,8 +160,9 @@ module _ (k : Setting) (small : k.stream ≤ 2 ^ 30) where
   Wants x v = IsPlaced x → IsTruthful k.files x → SaysTruth k.files x v
 
   opened-says : (x : Conn) (s : Station) (env : FrontEnv) (heads : List Seen) (g : FrontGets) → x.part.station ≡ Some s → env.iss ≡ s.iss
-      → IsFrontEnv k x.c env → FrontComes x env heads g → IsTruthful k.files x → IsConnNumber x.c → IsConnSound x → SaysTruth k.files x (front_does x heads (front_rule env x.part.front g))
-  opened-says x s env heads g there iss is comes h number sound =
+      → IsFrontEnv k x.c env → FrontComes x env heads g → IsTruthful k.files x → IsConnNumber x.c → IsConnSound x → IsPlaced x
+      → SaysTruth k.files x (front_does x heads (front_rule env x.part.front g))
+  opened-says x s env heads g there iss is comes h number sound at_place =
       let l : Talk = h.talk in
       let o = open-at k.files x s there h in
       let talk = talk-of k small x env is s l h.pend o iss in
@@ -141,10 +170,11 @@ module _ (k : Setting) (small : k.stream ≤ 2 ^ 30) where
       let told = told-behind l x heads (of-front x (λ (ss : List Seen). Tells l.w l.out l.vs (fold (seen_step (tale_step x.c)) (tale_at x) ss))
       (λ from bytes. record { numbers = t.numbers; wrote = t.wrote; served = t.served }) t
       (record { numbers = t.numbers; wrote = t.wrote; served = t.served }) env heads g comes) in
-      front-keeps env x.part.front (λ c. Unit {0}) (λ w q. Unit {0}) (Tells_so k small x number s there l h.pend o env is talk heads told)
-      (by-rules k small x number s there l h.pend o env is talk heads told sound.front) g (admission x env heads g comes) tt
+      front-keeps env x.part.front (FrontComes x env heads) (CameBack env l.w l.out l.vs l.was_reset x.part.front)
+      (Tells_so k small x number s there l h.pend o env is talk heads told)
+      (by-rules k small x number s there l h.pend o env is talk heads told at_place sound.front) g (admission x env heads g comes) comes
       (rule-agrees k small x s there env is l h.pend o talk heads g comes)
 
   pub fronts : FrontRules k (Owed Wants)
   fronts = each-front k (Owed Wants) (λ x env heads g is comes number sound placed h.
-      where-opened k (λ y v. IsConnNumber y.c → IsConnSound y → SaysTruth k.files y v) opened-says x env heads g is comes h number sound)
+      where-opened k (λ y v. IsConnNumber y.c → IsConnSound y → IsPlaced y → SaysTruth k.files y v) opened-says x env heads g is comes h number sound placed)

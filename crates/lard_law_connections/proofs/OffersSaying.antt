@@ -1,7 +1,7 @@
 -- What the front end and the nodes say to one another: what was said before, no Offer and no Give, or one that carries what the journal tells.
-use Rattle.std.proofs.Common.{◌≡◌, ◌⊎◌, ◌+◌, ◌^◌, ◌<◌, ◌-◌, ◌≤◌, ℕ, Bool, true, List, [], ◌∷◌, length, Option, Some, Ok, arith, ap, ◌∙◌, sym, subst, inr, append-nil}
+use Rattle.std.proofs.Common.{◌≡◌, ◌⊎◌, ◌+◌, ◌^◌, ◌<◌, ◌-◌, ◌≤◌, ℕ, Bool, true, List, [], ◌∷◌, length, Some, Ok, arith, ap, ◌∙◌, sym, subst, inr, append-nil}
 use Rattle.std.specs.List.{list_any}
-use Rattle.lard_law_view.specs.Prelude.{AreReplies, BackRow, Body, Conn, ControlBlock, FilesAt, FirstChoice, Front, FrontEnv, FrontRow, FrontTurn, IsConnNumber, IsMessage, IsStream, Kept, Kind, Message, Node, Part, Place, Rec, Service, Stream, Tale, Verdict, Was, bytes_served_in, decoded_message, handed_off, is_reset_record, kind_of, may_freeze, next_epoch, offer_kept, parts_of, served_in, tale, told_on}
+use Rattle.lard_law_view.specs.Prelude.{AreReplies, Body, Conn, ControlBlock, FilesAt, FirstChoice, Front, FrontEnv, FrontRow, FrontTurn, IsConnNumber, IsMessage, IsStream, Kept, Kind, Message, Node, Part, Place, Rec, Service, Stream, Tale, Verdict, Was, bytes_served_in, decoded_message, handed_off, is_reset_record, kind_of, may_freeze, next_epoch, offer_kept, parts_of, served_in, tale, told_on}
 use Rattle.lard_law_connections.specs.BytesAgreement.{FrontHolds, IsOffering}
 use Rattle.lard_law_connections.specs.BytesKeeping.{FrontTurned}
 use Rattle.lard_law_connections.proofs.BytesTold.{Bytes, bytes_of, place-notes}
@@ -59,14 +59,14 @@ other-goes files x b n c e y other = inr (λ J is m d.
     no-parts files J x.c m.body (λ (k : IsOfParts (kind_of m.body)). other (subst IsOfParts (sym (kinds-same (record { c = c; epoch = record { 0 = e }; body = y }) m d)) k)))
 
 -- A node says no Offer. It says no Give, either, since none gives a connection back yet: of this law nothing else rests on that.
-no-node-parts : (o : Option BackRow) (e : ℕ) (k : Kind) → NodeSaid o e k → IsOfParts k → ⊥
-no-node-parts o e kind.Offer h is = h
-no-node-parts o e kind.Give h is = h
-no-node-parts o e _ h is = is
+no-node-parts : (p : Part) (n e : ℕ) (k : Kind) → NodeSaid p n e k → IsOfParts k → ⊥
+no-node-parts p n e kind.Offer h is = h
+no-node-parts p n e kind.Give h is = h
+no-node-parts p n e _ h is = is
 
 pub node-goes : (files : FilesAt) (x : Conn) (b : Bytes) (p : Part) (n : ℕ) (to : Place) (bytes : List ℕ) → MaySay p (Node n) to (message_head bytes) → MayGo files x b (Node n) to bytes
 node-goes files x b p n Front bytes h = inr (λ J is m d.
-    no-parts files J x.c m.body (no-node-parts (p.nodes n).row m.epoch.0 (kind_of m.body) (subst (MaySay p (Node n) Front) (decoded-head bytes m d) h)))
+    no-parts files J x.c m.body (no-node-parts p n m.epoch.0 (kind_of m.body) (subst (MaySay p (Node n) Front) (decoded-head bytes m d) h)))
 node-goes files x b p n _ bytes h = tt
 
 -- ---- an Offer

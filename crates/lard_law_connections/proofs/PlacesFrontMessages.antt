@@ -1,17 +1,19 @@
 -- The front end's rules for what nodes say, and the head of the line.
-use Rattle.std.proofs.Common.{◌≡◌, ◌⊎◌, ℕ, ◌+◌, ◌<◌, ◌==◌, Bool, true, false, List, [], ◌∷◌, Option, Some, None, inr, refl, sym, ◌∙◌, subst, arith, eqb-true, eq-eqb}
-use Rattle.lard_law_view.specs.Prelude.{Ask, BackConn, BackRow, Body, Conn, EndedBy, Epoch, Final, Front, FrontConn, FrontDeed, FrontEnv, FrontGets, FrontPart, FrontRest, FrontRow, IsConnSound, IsEarlyAway, IsEarlyOver, IsFrontEnv, Later, LaterChoice, Node, NodePart, Part, Place, Seen, Setting, SpellsMessage, TakenBy, Was, ack_sent, assigned_notes, assigns, by_front, ended_with, front_does, front_ends, front_rest, front_rule, front_saying, is_away, kind_of, next_epoch, over_note, serving, tag_sent, taken_by, tale_at, with_front}
-use Rattle.lard_law_connections.specs.Places.{EndedBefore, HasEnded, IsComing, IsDecided, IsEven, IsLeft, IsOver, IsPast, IsThere, LetterMay, MaySay, Offers, OthersArePast, Owning, Owns, StageSits, owning}
-use Rattle.lard_law_connections.proofs.PlacesFront.{IsQuiet, Tells, drops-owes, front-owes, messages-owe, placed-owes, waits-home}
-use Rattle.lard_law_connections.proofs.PlacesFrontRules.{by-segment, by-timer, decided-there, has-each, sits-row, there-decided}
+use Rattle.std.proofs.Common.{◌≡◌, ◌⊎◌, ℕ, ◌+◌, ◌<◌, ◌≤◌, ◌==◌, Bool, true, false, List, [], ◌∷◌, Option, Some, None, inl, inr, ⊎_elim, refl, sym, ◌∙◌, subst, arith, eqb-true, eq-eqb}
+use Rattle.lard_law_view.specs.Prelude.{Ask, BackConn, BackRow, Body, Conn, EndedBy, EndpointParts, Epoch, Final, Front, FrontConn, FrontDeed, FrontEnv, FrontGets, FrontPart, FrontRest, FrontRow, IsConnSound, IsOnceAway, IsOnceOver, IsFrontEnv, IsMachine, Later, LaterChoice, Node, NodePart, Part, Place, ReturnedBy, Seen, Service, Setting, SpellsMessage, TakenBy, Was, ack_sent, assigned_notes, assigns, back_body, by_front, ended_with, front_does, front_ends, front_rest, front_rule, front_saying, is_away, kind_of, next_epoch, over_note, serving, tag_sent, taken_by, tale_at, with_front}
+use Rattle.lard_law_connections.specs.Places.{ArePast, EndedBefore, HasEnded, HasStay, IsComing, IsDecided, IsEven, IsLeft, IsOffered, IsOfOther, IsOver, IsPast, IsRefusalKnown, IsRefusedBy, IsThere, LetterMay, MaySay, Offers, OthersArePast, Owning, Owns, StageSits, owning}
+use Rattle.lard_law_connections.proofs.PlacesFront.{IsHomeAt, IsQuiet, Leads, Tells, drops-owes, front-owes, holds-owe, leads-more, messages-owe, placed-owes, reader, reader-in, sits-in, waits-home}
+use Rattle.lard_law_connections.proofs.PlacesFrontRules.{Read, by-segment, by-timer, decided-there, has-each, sits-row}
 use Rattle.lard_law_connections.proofs.PlacesGrowing.{FrontGrows, front-still, past-later}
 use Rattle.lard_law_connections.proofs.PlacesHeads.{decoded-head, head, spelled-head, spelled-some}
 use Rattle.lard_law_connections.proofs.PlacesRows.{IsPlain, plain-after, plain-owns}
-use Rattle.lard_law_connections.proofs.PlacesTurns.{IsPlaced, Owes, early-at, small-early}
+use Rattle.lard_law_connections.proofs.PlacesTurns.{IsPlaced, Owes, early-at, no-refusal, small-early}
 use Rattle.lard_dispatch.specs.declared.dispatch.First.TheVariants as first
-use Rattle.lard_law_view.proofs.EachFront.{FrontComes, admission}
-use Rattle.lard_rules.proofs.FrontCases.{KeptByFront, front-keeps}
-use Rattle.lard_rules.specs.Front.{Drops, Says, Does}
+use Rattle.lard_law_view.proofs.EachFront.{FrontComes, HasBack, admission}
+use Rattle.lard_rules.proofs.FrontCases.{IsBack, KeptByFront, KeptByReturn, back_reading, front-keeps}
+use Rattle.lard_law_connections.proofs.PlacesLoops.{reads-notes}
+use Rattle.lard_rules.specs.Front.{Drops, Says, Does, back_notes, back_part, back_rest, given_sent}
+use Rattle.lard_handoff_front.specs.Returns.{returned_row}
 use Rattle.lard_handoff_back.specs.declared.row.BackConn.TheVariants as back
 use Rattle.lard_handoff_front.specs.declared.row.FrontConn.TheVariants as stage
 use Rattle.lard_history.proofs.Each.{Each, Each-append}
@@ -23,16 +25,94 @@ pub came-says : (x : Conn) (from to : Place) (epoch : ℕ) (b : Body) (bytes : L
 came-says x from to epoch b bytes letters was spells =
     subst (MaySay x.part from to) (decoded-head bytes _ spells) (has-each (LetterMay x.part) (record { from = from; to = to; bytes = bytes }) x.letters was letters)
 
+-- INTERIM: what an Offer that came says, while no node refuses a connection
+pub offer-says : (x : Conn) → IsPlaced x → (n epoch : ℕ) (parts : EndpointParts) (bytes : List ℕ) → Was x Front (Node n) bytes
+    → SpellsMessage x.c epoch (body.Offer parts) bytes
+    → IsDecided epoch (x.part.nodes n).row ⊎ IsOffered n epoch x.part.front.row
+offer-says x placed n epoch parts bytes was spells = ⊎_elim
+    (λ (decided : IsDecided epoch (x.part.nodes n).row). inl decided)
+    (λ (other : IsOffered n epoch x.part.front.row ⊎ IsRefusalKnown x.part n epoch). ⊎_elim
+    (λ (offered : IsOffered n epoch x.part.front.row). inr offered)
+    (λ (known : IsRefusalKnown x.part n epoch). absurd (no-refusal x placed n epoch known.0)) other)
+    (came-says x Front (Node n) epoch (body.Offer parts) bytes placed.letters was spells)
+
+-- ---- it comes back
+
+-- INTERIM: no node gives a connection back yet
+pub no-give : (x : Conn) → IsPlaced x → (n epoch : ℕ) (parts : EndpointParts) (bytes : List ℕ) → Was x (Node n) Front bytes
+    → SpellsMessage x.c epoch (body.Give parts) bytes → ⊥
+no-give x placed n epoch parts bytes was spells = came-says x (Node n) Front epoch (body.Give parts) bytes placed.letters was spells
+
+-- INTERIM: nor does one refuse it, so none comes back
+pub never-back : (x : Conn) → IsPlaced x → (n epoch : ℕ) (given : Option EndpointParts) (bytes : List ℕ) → Was x (Node n) Front bytes → SpellsMessage x.c epoch (back_body given) bytes → ⊥
+never-back x placed n epoch None bytes was spells = no-refusal x placed n epoch (came-says x (Node n) Front epoch body.Refused bytes placed.letters was spells).0
+never-back x placed n epoch (Some parts) bytes was spells = no-give x placed n epoch parts bytes was spells
+
+-- INTERIM: so where it comes back, it was refused
+pub none-given : (x : Conn) → IsPlaced x → (n epoch : ℕ) (given : Option EndpointParts) (heads : List Seen) → HasBack x n epoch given heads → given ≡ None
+none-given x placed n epoch None heads h = refl
+none-given x placed n epoch (Some parts) heads h = absurd (no-give x placed n epoch parts h.bytes h.was h.spells)
+
+-- Node n refused it, and the front end has it still: it was on its way there, and nobody owns it.
+pub record IsRefusedThere (x : Conn) (n epoch : ℕ) (row : FrontRow) : Type 0 where
+  pub found : x.part.front.row ≡ Some row
+  pub stage : row.stage ≡ stage.Offering n (record { 0 = epoch })
+  pub epoch_is : row.epoch.0 ≡ epoch
+  pub even : IsEven epoch
+  pub early : IsOnceAway epoch
+  pub others : OthersArePast n epoch x.part.nodes
+  pub coming : IsComing epoch (owning (tale_at x)) (x.part.nodes n).row
+  pub refused : IsRefusedBy epoch (x.part.nodes n)
+  pub ended : EndedBefore epoch row.ended_by
+
+-- its stay is of another epoch, so it has not taken it
+pub coming-refused : (n e : ℕ) (w : Owning) (p : NodePart) → IsComing e w p.row ⊎ IsThere n e w p.row → IsRefusedBy e p → IsComing e w p.row
+coming-refused n e w p at h = ⊎_elim (λ (coming : IsComing e w p.row). coming) (λ (there : IsThere n e w p.row). absurd (other p.row there h.1)) at where
+  other : (o : Option BackRow) → IsThere n e w o → IsOfOther e o → ⊥
+  other None there apart = there
+  other (Some row) there apart = apart there.0
+
+pub refused-there : (x : Conn) → IsPlaced x → (n epoch : ℕ) (heads : List Seen) → HasBack x n epoch None heads → (row : FrontRow) (parts : EndpointParts)
+    → IsBack x.part.front n epoch None row parts → IsRefusedThere x n epoch row
+refused-there x placed n epoch heads comes row parts is =
+    let at = is.refused refl in
+    let w : Owning = owning (tale_at x) in
+    let said : IsRefusedBy epoch (x.part.nodes n) = (came-says x (Node n) Front epoch body.Refused comes.bytes placed.letters comes.was comes.spells).0 in
+    let h = sits-in x placed row (stage.Offering n is.from) at in
+    let same : row.epoch.0 ≡ epoch = sym h.0.1 ∙ is.epoch_is in
+    record {
+      found = at.0;
+      stage = at.1 ∙ (λ i. stage.Offering n (record { 0 = is.epoch_is i }));
+      epoch_is = same;
+      even = subst IsEven same h.0.0;
+      early = subst IsOnceAway same (early-at x placed row at.0 (stage.Offering n is.from) at.1);
+      others = subst (λ (e : ℕ). OthersArePast n e x.part.nodes) same h.0.2;
+      coming = coming-refused n epoch w (x.part.nodes n) (subst (λ (e : ℕ). IsComing e w (x.part.nodes n).row ⊎ IsThere n e w (x.part.nodes n).row) same h.0.3) said;
+      refused = said;
+      ended = subst (λ (e : ℕ). EndedBefore e row.ended_by) same h.1;
+    }
+
+-- so every stay there was is over
+pub refused-past : (x : Conn) (n epoch : ℕ) (row : FrontRow) → IsRefusedThere x n epoch row → ArePast epoch x.part.nodes
+refused-past x n epoch row it m = go (m == n) refl where
+  go : (b : Bool) → (m == n) ≡ b → IsPast epoch (x.part.nodes m).row
+  go true same = subst (λ (j : ℕ). IsPast epoch (x.part.nodes j).row) (sym (eqb-true m n same)) it.coming.2
+  go false other = it.others m (λ is. let yes : true ≡ false = sym (eq-eqb m n is) ∙ other in cc)
+
 -- ---- where it is while it is away
 
 -- It was offered to node n, and is there or on its way.
 pub record IsWith (x : Conn) (row : FrontRow) (n : ℕ) : Type 0 where
   pub even : IsEven row.epoch.0
-  pub early : IsEarlyAway row.epoch.0
+  pub early : IsOnceAway row.epoch.0
   pub others : OthersArePast n row.epoch.0 x.part.nodes
   pub at : IsComing row.epoch.0 (owning (tale_at x)) (x.part.nodes n).row ⊎ IsThere n row.epoch.0 (owning (tale_at x)) (x.part.nodes n).row
 
 -- ---- the end of a stay
+
+there-stay : (n e : ℕ) (w : Owning) (o : Option BackRow) → IsThere n e w o → HasStay e o
+there-stay n e w None h = h
+there-stay n e w (Some row) h = h.0
 
 -- a stay of this epoch that is over is nobody's
 over-nobody : (n e : ℕ) (w : Owning) (o : Option BackRow) → IsThere n e w o → IsOver e o → w.owner ≡ None
@@ -93,7 +173,8 @@ module _ (k : Setting) (x : Conn) (heads : List Seen) (quiet : IsQuiet x heads) 
         omega arith,
         λ i e offers.
             let o : Offers i e (stage.Offering n d) = subst (Offers i e) at offers in
-            inr (subst (λ (j : ℕ). IsDecided e (nodes j).row) o.0 (subst (λ (f : ℕ). IsDecided f (nodes n).row) (sym sits.1 ∙ o.1) (there-decided n row.epoch.0 w nodes sits.2 (nodes n).row there))),
+            inr (inl (subst (λ (j : ℕ). HasStay e (nodes j).row) o.0 (subst (λ (f : ℕ). HasStay f (nodes n).row) (sym sits.1 ∙ o.1)
+                (there-stay n row.epoch.0 w (nodes n).row there)))),
       ))
       tt
 
@@ -147,8 +228,8 @@ module _ (k : Setting) (x : Conn) (heads : List Seen) (quiet : IsQuiet x heads) 
       ((omega (arith, away.even.0), (refl, all-past row n away there over_n)), omega (arith, now))
       (subst (λ (o : Option FrontRow). FrontGrows nodes o did.part.row) (sym found) (
         omega arith,
-        λ i f offers. inr (subst (λ (j : ℕ). IsDecided f (nodes j).row) (sym (offered i f offers).0)
-            (subst (λ (g : ℕ). IsDecided g (nodes n).row) (sym (offered i f offers).1) (there-decided n e w nodes away.others (nodes n).row there))),
+        λ i f offers. inr (inl (subst (λ (j : ℕ). HasStay f (nodes j).row) (sym (offered i f offers).0)
+            (subst (λ (g : ℕ). HasStay g (nodes n).row) (sym (offered i f offers).1) (there-stay n e w (nodes n).row there)))),
       ))
       (subst (λ h. MaySay q Front (Node m) h) (sym (spelled-head _ (omega (arith, now, away.early)))) (omega (arith, now)), tt) where
         only : (row : FrontRow) (m n : ℕ) → IsWith x row n → IsDecided row.epoch.0 (nodes m).row → m ≡ n
@@ -184,7 +265,7 @@ module _ (k : Setting) (x : Conn) (heads : List Seen) (quiet : IsQuiet x heads) 
   again-owes row m epoch found again =
       let h = find-row row found in
       let before : epoch < row.epoch.0 = earlier row.ended_by again h.1 in
-      let le : IsEarlyOver row.epoch.0 = small-early row.epoch.0 row.stage (early-at x held row found row.stage refl) in
+      let le : IsOnceOver row.epoch.0 = small-early row.epoch.0 row.stage (early-at x held row found row.stage refl) in
       let ended : HasEnded epoch p.row = subst (HasEnded epoch) (sym found) before in
       messages-owe x heads quiet held (ack_sent env m epoch) (tt, tt)
       (subst (λ h. MaySay x.part Front (Node m) h) (sym (spelled-head _ (omega (arith, before, le)))) ended, tt) where
@@ -192,21 +273,92 @@ module _ (k : Setting) (x : Conn) (heads : List Seen) (quiet : IsQuiet x heads) 
         earlier None e h = let no : false ≡ true = e in absurd cc
         earlier (Some by) e h = let same : by.0 ≡ epoch = eqb-true by.0 epoch e in omega (arith, same, h)
 
+  -- ---- a connection that comes back
+
+  given-machines : (n epoch : ℕ) (given : Option EndpointParts) → Each (λ m. IsMachine m.0) (given_sent env.serve.c n epoch given)
+  given-machines n epoch None = tt
+  given-machines n epoch (Some parts) = (tt, tt)
+
+  -- it was refused, and is here behind these notes, in the next epoch
+  back-home : (n epoch : ℕ) (row : FrontRow) (parts : EndpointParts) → IsRefusedThere x n epoch row
+      → IsHomeAt x (returned_row parts row) (record { owner = Some Front; epoch = row.epoch.0 + 1 })
+  back-home n epoch row parts it =
+      let same : row.epoch.0 ≡ epoch = it.epoch_is in
+      let even = it.even.0 in
+      let early = it.early in
+      record {
+        odd = omega (arith, even, same);
+        small = omega (arith, early, same);
+        home = (refl, λ m. past-later epoch (row.epoch.0 + 1) (nodes m).row (omega (arith, same)) (refused-past x n epoch row it m));
+        ended = tt;
+        grows = λ next le. subst (λ (o : Option FrontRow). FrontGrows nodes o (Some next)) (sym it.found) (
+          omega (arith, le),
+          λ i f offers.
+              let o : Offers i f (stage.Offering n (record { 0 = epoch })) = subst (Offers i f) it.stage offers in
+              let refused : IsRefusedBy epoch (nodes i) = subst (λ (j : ℕ). IsRefusedBy epoch (nodes j)) o.0 it.refused in
+              let at : epoch ≡ f = o.1 in
+              inr (inr (subst (λ (g : ℕ). IsRefusedBy g (nodes i)) at refused, omega (arith, le, same, at))),
+        );
+      }
+
+  back-leads : (n epoch : ℕ) (row : FrontRow) → IsRefusedThere x n epoch row
+      → Leads x (record { owner = Some Front; epoch = row.epoch.0 + 1 }) (back_notes env.serve.c row)
+  back-leads n epoch row it =
+      let before = it.coming.1 in
+      let same = it.epoch_is in
+      (((is.number, omega (arith, before, same), it.coming.0), (tt, tt)), refl)
+
+  -- it reads on, and may be handed off in the same step
+  returns-owe : (n epoch : ℕ) (given : Option EndpointParts) → given ≡ None → (row : FrontRow) (parts : EndpointParts) → IsRefusedThere x n epoch row
+      → KeptByReturn env p (given_sent env.serve.c n epoch given) row parts (Read k x heads quiet held env is) Owed
+  returns-owe n epoch given none row parts it =
+      let said : List (Place × List ℕ) = given_sent env.serve.c n epoch given in
+      let v : Owning = record { owner = Some Front; epoch = row.epoch.0 + 1 } in
+      let here : IsHomeAt x (returned_row parts row) v = back-home n epoch row parts it in
+      let reads : reader p.row ≡ v = reader-in x row (stage.Offering n (record { 0 = epoch })) (it.found, it.stage) in
+      let leads : (r : Service) → Leads x (reader p.row) r.notes → Leads x v r.notes = λ r. subst (λ (u : Owning). Leads x u r.notes) reads in
+      record {
+        reads = reads-notes (Leads x (reader p.row)) (leads-more x (reader p.row)) env.serve (back_reading env row parts)
+            (subst (λ (u : Owning). Leads x u (back_notes env.serve.c row)) (sym reads) (back-leads n epoch row it));
+        holds = λ r h. holds-owe x heads quiet env is.number (back_part p row parts) (returned_row parts row) v here said (given-machines n epoch given) (told given none)
+            (back_rest parts) r (leads r h);
+        hands = λ r path choice h same. placed-owes x heads quiet env is.number (back_part p row parts) (returned_row parts row) v here said (given-machines n epoch given)
+            (told given none) (back_rest parts) r path (first.Go choice) (leads r h);
+        waits = λ r path h same. placed-owes x heads quiet env is.number (back_part p row parts) (returned_row parts row) v here said (given-machines n epoch given)
+            (told given none) (back_rest parts) r path first.Waits (leads r h);
+      } where
+        told : (g : Option EndpointParts) → g ≡ None → (next : FrontRow) → row.epoch.0 + 1 ≤ next.epoch.0 → (q : Part) → q.front.row ≡ Some next
+            → Each (Tells q Front) (given_sent env.serve.c n epoch g)
+        told None e next le q at = tt
+        told (Some given) e next le q at = let no_give : Some given ≡ None = e in absurd cc
+
+  -- the front end is past a Give, and answers it again
+  given-owes : (row : FrontRow) (m epoch : ℕ) (parts : EndpointParts) → p.row ≡ Some row → epoch < row.epoch.0
+      → Owed (Says (front_saying (given_sent env.serve.c m epoch (Some parts))))
+  given-owes row m epoch parts found past =
+      let le : IsOnceOver row.epoch.0 = small-early row.epoch.0 row.stage (early-at x held row found row.stage refl) in
+      let ended : HasEnded epoch p.row = subst (HasEnded epoch) (sym found) past in
+      messages-owe x heads quiet held (given_sent env.serve.c m epoch (Some parts)) (tt, tt)
+      (subst (λ h. MaySay x.part Front (Node m) h) (sym (spelled-head _ (omega (arith, past, le)))) ended, tt)
+
   -- ---- whatever comes
 
-  -- a node that says Taken has decided, and the stay of one that says Ended is over
+  -- a node that says Taken has decided, the stay of one that says Ended is over, and one that says Refused did not take it
   abbrev SaysSo : FrontGets → Type 0
   SaysSo (TakenBy m epoch) = IsDecided epoch (nodes m).row
   SaysSo (EndedBy m epoch last) = IsOver epoch (nodes m).row
+  SaysSo (ReturnedBy m epoch given) = (given ≡ None) × ((row : FrontRow) (parts : EndpointParts) → IsBack p m epoch given row parts → IsRefusedThere x m epoch row)
   SaysSo _ = Unit {0}
 
   says : (g : FrontGets) → FrontComes x env heads g → SaysSo g
   says (TakenBy m epoch) comes = came-says x (Node m) Front epoch body.Taken comes.bytes held.letters comes.was comes.spells
   says (EndedBy m epoch last) comes =
       let t = comes.told in came-says x (Node m) Front epoch (body.Ended last.reason last.snd.0 last.rcv.0 comes.count) t.bytes held.letters t.was t.spells
+  says (ReturnedBy m epoch None) comes = (refl, λ row parts at. refused-there x held m epoch heads comes row parts at)
+  says (ReturnedBy m epoch (Some parts)) comes = absurd (no-give x held m epoch parts comes.bytes comes.was comes.spells)
   says _ comes = tt
 
-  by-rules : IsConnSound x → KeptByFront env p SaysSo (λ r o. Each IsPlain r.notes) Owed
+  by-rules : IsConnSound x → KeptByFront env p SaysSo (Read k x heads quiet held env is) Owed
   by-rules sound = record {
     drops = dropped;
     hears = λ bytes s m. by-segment k x heads quiet held env is bytes s;
@@ -218,9 +370,11 @@ module _ (k : Setting) (x : Conn) (heads : List Seen) (quiet : IsQuiet x heads) 
     ends_again = λ m epoch last over row found away again. again-owes row m epoch found again;
     ends = λ m epoch last over row found away. with-node row found epoch row.stage refl away _
         (λ n there now offered. ends-owe-one row m n epoch last found there now over offered (find-row row found).1);
-    admits = λ choice made met row b path at target. placed-owes x heads quiet env is.number row (waits-home x held row b at) (front_rest p.rest)
-        (serving b (front_rest p.rest).count []) path (first.Go choice) tt;
+    gives_again = λ m epoch parts said row found past. given-owes row m epoch parts found past;
+    returns = λ m epoch given said row parts at. returns-owe m epoch given said.0 row parts (said.1 row parts at);
+    admits = λ choice made met row b path at target. placed-owes x heads quiet env is.number p row w (waits-home x held row b at) [] tt (λ next le q at. tt) (front_rest p.rest)
+        (serving b (front_rest p.rest).count []) path (first.Go choice) (tt, refl);
   }
 
   pub gets-owe : IsConnSound x → (g : FrontGets) → FrontComes x env heads g → Owed (front_rule env p g)
-  gets-owe sound g comes = front-keeps env p SaysSo (λ r o. Each IsPlain r.notes) Owed (by-rules sound) g (admission x env heads g comes) (says g comes)
+  gets-owe sound g comes = front-keeps env p SaysSo (Read k x heads quiet held env is) Owed (by-rules sound) g (admission x env heads g comes) (says g comes)

@@ -1,18 +1,18 @@
 -- The rules of the front end, one by one.
-use Rattle.std.proofs.Common.{◌≡◌, ◌⊎◌, ℕ, ◌==◌, Bool, true, false, List, [], ◌∷◌, map, Option, Some, None, inl, inr, ⊎_elim, refl, sym, ap, ◌∙◌, subst, arith, eqb-true, eq-eqb}
-use Rattle.lard_law_view.specs.Prelude.{AreSent, BackRow, Client, Conn, ControlBlock, Ending, Final, Front, FrontDeed, FrontEnv, FrontPart, FrontRow, Has, IsConnSound, IsFrontEnv, IsMachine, Kept, Node, NodePart, Place, Said as Segment, Seen, Service, Setting, Turn, after_timer, by_front, front_begun, front_does, front_rest, front_saying, last_words, leaves_by, sent_of, spoken, tale_at, timed, tombstone, turn_here, waits_on}
+use Rattle.std.proofs.Common.{◌≡◌, ◌⊎◌, ℕ, ◌≤◌, ◌==◌, Bool, true, false, List, [], ◌∷◌, map, Option, Some, None, inl, inr, ⊎_elim, refl, sym, ap, ◌∙◌, subst, arith, eqb-true, eq-eqb}
+use Rattle.lard_law_view.specs.Prelude.{AreSent, BackRow, Client, Conn, ControlBlock, Final, Front, FrontDeed, FrontEnv, FrontPart, FrontRow, Has, IsConnSound, IsFrontEnv, IsMachine, Kept, Node, NodePart, Part, Place, Said as Segment, Seen, Service, Setting, after_timer, by_front, front_begun, front_does, front_rest, front_saying, last_words, leaves_by, sent_of, spoken, tale_at, timed, tombstone, turn_here, waits_on}
 use Rattle.lard_law_connections.specs.Places.{EndedBefore, IsComing, IsDecided, IsHome, IsPast, IsThere, LetterMay, MaySay, OthersArePast, Owning, Sits, StageSits, owning}
-use Rattle.lard_law_connections.proofs.PlacesFront.{IsHomeAt, IsQuiet, Tells, drops-owes, ends-owe, front-owes, held-home, holds-owe, messages-owe, placed-owes, says-owe, sits-in, waits-home}
+use Rattle.lard_law_connections.proofs.PlacesFront.{IsHomeAt, IsQuiet, Leads, Tells, drops-owes, front-owes, held-home, holds-owe, leads-more, messages-owe, placed-owes, plain-leads, reader, reader-in, says-owe, sits-in, waits-home}
 use Rattle.lard_law_connections.proofs.PlacesGrowing.{FrontGrows, front-still, past-later}
 use Rattle.lard_law_connections.proofs.PlacesHeads.{spelled-some}
-use Rattle.lard_law_connections.proofs.PlacesLoops.{reads-notes, spoken-to}
+use Rattle.lard_law_connections.proofs.PlacesLoops.{reads-notes}
 use Rattle.lard_law_connections.proofs.PlacesRows.{IsPlain}
 use Rattle.lard_law_connections.proofs.PlacesTurns.{IsPlaced, Owes}
 use Rattle.lard_rules.proofs.FrontCases.{IsInStage, KeptBySegment, begun_row, begun_service, KeptByTimer, fired_before, fired_service, heard_reading, heard_service}
 use Rattle.lard_rules.specs.Front.{Drops, Says, message}
 use Rattle.lard_dispatch.specs.declared.dispatch.First.TheVariants as first
 use Rattle.lard_handoff_front.specs.declared.row.FrontConn.TheVariants as stage
-use Rattle.lard_history.proofs.Each.{Each, Each-append}
+use Rattle.lard_history.proofs.Each.{Each}
 use Rattle.lard_message.specs.declared.message.Body.TheVariants as body
 use Rattle.lard_law_view.proofs.EndpointSends.{AllTo, ready-to}
 
@@ -85,16 +85,19 @@ module _ (k : Setting) (x : Conn) (heads : List Seen) (quiet : IsQuiet x heads) 
 
   begins-owe : (s : Segment) → p.row ≡ None → Owed (front_begun env p s)
   begins-owe s none =
-      let given : Ending × Turn = spoken env.serve (begun_service env s) [] in
       let at : Sits w nodes None = subst (Sits w nodes) none placed.sits in
       let v : Owning = record { owner = Some Front; epoch = 1 } in
-      let home : IsHome 1 v nodes = (refl, λ n. past-later 0 1 (nodes n).row (omega arith) (at.1 n)) in
       let fresh : w.epoch ≡ 0 = ap (λ (u : Owning). u.epoch) at.0 in
       let free : w.owner ≡ None = ap (λ (u : Owning). u.owner) at.0 in
-      ends-owe x heads quiet begun_row (front_rest None) stage.Held given [] v (λ b home. (refl, home)) refl tt home
-      (λ st. subst (λ (o : Option FrontRow). FrontGrows nodes o (Some (record begun_row { stage = st }))) (sym none) tt)
-      ((is.number, omega (arith, fresh), free), tt) refl
-      (subst (λ (c : ℕ). AllTo (Client c) given.1.segments) is.number (spoken-to env.serve (begun_service env s) [] tt))
+      let here : IsHomeAt x begun_row v = record {
+        odd = refl;
+        small = omega arith;
+        home = (refl, λ n. past-later 0 1 (nodes n).row (omega arith) (at.1 n));
+        ended = tt;
+        grows = λ next le. subst (λ (o : Option FrontRow). FrontGrows nodes o (Some next)) (sym none) tt;
+      } in
+      says-owe x heads quiet env is.number p begun_row v here [] tt (λ next le q at. tt) (front_rest None) stage.Held (begun_service env s) [] []
+      (λ b home. (refl, home)) (((is.number, omega (arith, fresh), free), tt), refl) tt
 
   tombstone-owes : (row : FrontRow) (last : Final) (o : Option Segment) → IsHome row.epoch.0 w nodes → Owed (Says (turn_here (tombstone env.serve o)))
   tombstone-owes row last None home = front-owes x heads quiet (by_front (turn_here (tombstone env.serve None))) p w
@@ -108,24 +111,42 @@ module _ (k : Setting) (x : Conn) (heads : List Seen) (quiet : IsQuiet x heads) 
         then = refl;
       }) placed.sits (front-still nodes p.row) tt
 
+  -- no messages stand before what an endpoint does that is here
+  abbrev NothingTold : FrontRow → Type 0
+  NothingTold row = (next : FrontRow) → row.epoch.0 ≤ next.epoch.0 → (q : Part) → q.front.row ≡ Some next → Each (Tells q Front) []
+
+  nothing-told : (row : FrontRow) → NothingTold row
+  nothing-told row next le q at = tt
+
   waits-on : (row : FrontRow) (b : ControlBlock) → IsInStage p row (stage.Waiting b) → (s : Service) (before : List (Place × List ℕ)) → Each IsPlain s.notes
       → AllTo (Client env.serve.c) before
       → Owed (waits_on env p row (front_rest p.rest) (spoken env.serve s before))
   waits-on row b at s before plain to =
-      let here : IsHomeAt x row = waits-home x placed row b at in
-      says-owe x heads quiet env is.number row here (front_rest p.rest) stage.Waiting s before (leaves_by env.serve.c (spoken env.serve s before).0)
-      (λ c home. (here.odd, home)) plain to
+      let here : IsHomeAt x row w = waits-home x placed row b at in
+      says-owe x heads quiet env is.number p row w here [] tt (nothing-told row) (front_rest p.rest) stage.Waiting s before (leaves_by env.serve.c (spoken env.serve s before).0)
+      (λ c home. (here.odd, home)) (plain-leads x s.notes plain) to
 
-  pub by-segment : (bytes : List ℕ) (s : Segment) → KeptBySegment env p bytes s (λ r o. Each IsPlain r.notes) Owed
+  -- what was read leads to this
+  abbrev pub Read : Service → Option (List ℕ) → Type 0
+  Read r o = Leads x (reader p.row) r.notes
+
+  -- it is held, so the front end owns it already
+  held-reader : (row : FrontRow) (b : ControlBlock) → IsInStage p row (stage.Held b) → w ≡ reader p.row
+  held-reader row b at = (held-home x placed row b at).home.0 ∙ sym (reader-in x row (stage.Held b) at)
+
+  held-leads : (row : FrontRow) (b : ControlBlock) → IsInStage p row (stage.Held b) → (r : Service) → Leads x (reader p.row) r.notes → Leads x w r.notes
+  held-leads row b at r leads = subst (λ (u : Owning). Leads x u r.notes) (sym (held-reader row b at)) leads
+
+  pub by-segment : (bytes : List ℕ) (s : Segment) → KeptBySegment env p bytes s Read Owed
   by-segment bytes s = record {
     drops = dropped;
     begins = λ none plain. begins-owe s none;
-    reads = λ row b at. reads-notes (Each IsPlain) (λ ns rs plain h. Each-append IsPlain ns rs h plain) env.serve (heard_reading p b s) tt;
-    holds = λ row b r at plain. holds-owe x heads quiet env is.number row (held-home x placed row b at) (front_rest p.rest) r plain;
-    hands = λ row b r path choice at plain same. placed-owes x heads quiet env is.number row (held-home x placed row b at) (front_rest p.rest) r path
-        (first.Go choice) plain;
-    waits = λ row b r path at plain same. placed-owes x heads quiet env is.number row (held-home x placed row b at)
-        (front_rest p.rest) r path first.Waits plain;
+    reads = λ row b at. reads-notes (Leads x (reader p.row)) (leads-more x (reader p.row)) env.serve (heard_reading p b s) (tt, held-reader row b at);
+    holds = λ row b r at leads. holds-owe x heads quiet env is.number p row w (held-home x placed row b at) [] tt (nothing-told row) (front_rest p.rest) r (held-leads row b at r leads);
+    hands = λ row b r path choice at leads same. placed-owes x heads quiet env is.number p row w (held-home x placed row b at) [] tt (nothing-told row) (front_rest p.rest) r path
+        (first.Go choice) (held-leads row b at r leads);
+    waits = λ row b r path at leads same. placed-owes x heads quiet env is.number p row w (held-home x placed row b at) [] tt (nothing-told row)
+        (front_rest p.rest) r path first.Waits (held-leads row b at r leads);
     stays = λ row b at. waits-on row b at (heard_service p b s) [] tt tt;
     forwards = λ row n e at. forwards n e.0 bytes;
     words = λ row last at. tombstone-owes row last (last_words last.reason last s) (sits-in x placed row (stage.Closed last) at).0.1;
@@ -134,9 +155,9 @@ module _ (k : Setting) (x : Conn) (heads : List Seen) (quiet : IsQuiet x heads) 
   pub by-timer : IsConnSound x → KeptByTimer env p Owed
   by-timer sound = record {
     drops = dropped;
-    holds = λ row b at. let here : IsHomeAt x row = held-home x placed row b at in
-        says-owe x heads quiet env is.number row here (front_rest p.rest) stage.Held (fired_service p b) (fired_before env b) []
-        (λ c home. (here.odd, home)) tt (ready-to env.serve (after_timer b) (timed b));
+    holds = λ row b at. let here : IsHomeAt x row w = held-home x placed row b at in
+        says-owe x heads quiet env is.number p row w here [] tt (nothing-told row) (front_rest p.rest) stage.Held (fired_service p b) (fired_before env b) []
+        (λ c home. (here.odd, home)) (tt, refl) (ready-to env.serve (after_timer b) (timed b));
     stays = λ row b at. waits-on row b at (fired_service p b) (fired_before env b) tt (ready-to env.serve (after_timer b) (timed b));
     resends = λ row n e at. messages-owe x heads quiet placed (map sent_of p.kept) (resent-machines x Front p.kept sound.front)
         (resent-tells x Front p.kept placed.letters sound.front);

@@ -1,7 +1,7 @@
 -- What was said of a packet stays so while the front end and the nodes go on.
 use Rattle.std.proofs.Common.{◌≡◌, ◌⊎◌, ℕ, ◌≤◌, List, Option, Some, None, inl, inr, ⊎_elim, sym, ◌∙◌, arith}
 use Rattle.lard_law_view.specs.Prelude.{BackRow, Front, FrontRow, Kind, Letter, Node, NodePart, Part, Place}
-use Rattle.lard_law_connections.specs.Places.{FrontSaid, HasEnded, Head, IsDecided, IsLeft, IsOffered, IsOver, IsPast, LetterMay, MaySay, NodeSaid, Offers, OtherSaid}
+use Rattle.lard_law_connections.specs.Places.{FrontSaid, HasEnded, Head, HasStay, IsDecided, IsLeft, IsOffered, IsOver, IsPast, IsOfOther, IsRefusalKnown, IsRefusalTold, IsRefusedBy, LetterMay, MaySay, NodeSaid, Offers, OtherSaid}
 use Rattle.lard_history.proofs.Each.{Each, Each-weaker}
 use Rattle.lard_message.specs.declared.kind.Kind.TheVariants as kind
 
@@ -13,14 +13,20 @@ BackGrows None o = Unit {0}
 BackGrows (Some row) None = ⊥
 BackGrows (Some row) (Some next) = (row.epoch.0 ≤ next.epoch.0) × (row.epoch.0 ≡ next.epoch.0 → IsLeft row.stage → IsLeft next.stage)
 
--- nor does that at the front end, and an Offer is told until the node decided
+-- nor does that at the front end, and an Offer is told until the node took it, or its refusal is known
 abbrev pub FrontGrows : (ℕ → NodePart) → Option FrontRow → Option FrontRow → Type 0
 FrontGrows nodes None o = Unit {0}
 FrontGrows nodes (Some row) None = ⊥
-FrontGrows nodes (Some row) (Some next) = (row.epoch.0 ≤ next.epoch.0) × ((n e : ℕ) → Offers n e row.stage → Offers n e next.stage ⊎ IsDecided e (nodes n).row)
+FrontGrows nodes (Some row) (Some next) = (row.epoch.0 ≤ next.epoch.0) × ((n e : ℕ) → Offers n e row.stage
+    → Offers n e next.stage ⊎ (HasStay e (nodes n).row ⊎ (IsRefusedBy e (nodes n) × HasEnded e (Some next))))
+
+-- what a node refused stays refused
+abbrev pub KeepsRefusals : NodePart → NodePart → Type 0
+KeepsRefusals p q = (e : ℕ) → IsRefusedBy e p → IsRefusedBy e q
 
 pub record Grows (p q : Part) : Type 0 where
   pub nodes : (n : ℕ) → BackGrows (p.nodes n).row (q.nodes n).row
+  pub refusals : (n : ℕ) → KeepsRefusals (p.nodes n) (q.nodes n)
   pub front : FrontGrows q.nodes p.front.row q.front.row
 
 pub back-still : (o : Option BackRow) → BackGrows o o
@@ -32,7 +38,7 @@ front-still nodes None = tt
 front-still nodes (Some row) = (omega arith, λ n e offers. inl offers)
 
 pub grows-still : (p : Part) → Grows p p
-grows-still p = record { nodes = λ n. back-still (p.nodes n).row; front = front-still p.nodes p.front.row }
+grows-still p = record { nodes = λ n. back-still (p.nodes n).row; refusals = λ n e h. h; front = front-still p.nodes p.front.row }
 
 -- ---- what was said stays so
 
@@ -52,31 +58,66 @@ ended-grows nodes e None r g h = absurd h
 ended-grows nodes e (Some row) None g h = absurd g
 ended-grows nodes e (Some row) (Some next) g h = omega (arith, g.0, h)
 
-pub offered-grows : (nodes : ℕ → NodePart) (n e : ℕ) (o r : Option FrontRow) → FrontGrows nodes o r → IsOffered n e o → IsOffered n e r ⊎ IsDecided e (nodes n).row
-offered-grows nodes n e None r g h = absurd h
-offered-grows nodes n e (Some row) None g h = absurd g
-offered-grows nodes n e (Some row) (Some next) g h = g.1 n e h
+pub stay-decided : (e : ℕ) (o : Option BackRow) → HasStay e o → IsDecided e o
+stay-decided e None h = h
+stay-decided e (Some row) h = omega (arith, h)
+
+stay-other : (e : ℕ) (o : Option BackRow) → HasStay e o → IsOfOther e o → ⊥
+stay-other e None h other = h
+stay-other e (Some row) h other = other h
+
+offered-goes : (nodes : ℕ → NodePart) (n e : ℕ) (o r : Option FrontRow) → FrontGrows nodes o r → IsOffered n e o
+    → IsOffered n e r ⊎ (HasStay e (nodes n).row ⊎ (IsRefusedBy e (nodes n) × HasEnded e r))
+offered-goes nodes n e None r g h = absurd h
+offered-goes nodes n e (Some row) None g h = absurd g
+offered-goes nodes n e (Some row) (Some next) g h = g.1 n e h
+
+pub offered-grows : (nodes : ℕ → NodePart) (n e : ℕ) (o r : Option FrontRow) → FrontGrows nodes o r → IsOffered n e o
+    → IsOffered n e r ⊎ (IsDecided e (nodes n).row ⊎ (IsRefusedBy e (nodes n) × HasEnded e r))
+offered-grows nodes n e o r g h = ⊎_elim
+    (λ (still : IsOffered n e r). inl still)
+    (λ (other : HasStay e (nodes n).row ⊎ (IsRefusedBy e (nodes n) × HasEnded e r)). inr (⊎_elim
+    (λ (stay : HasStay e (nodes n).row). inl (stay-decided e (nodes n).row stay))
+    (λ (known : IsRefusedBy e (nodes n) × HasEnded e r). inr known) other))
+    (offered-goes nodes n e o r g h)
+
+-- while it is offered to a node that refused it, that takes it no more
+told-grows : (p q : Part) (n e : ℕ) → Grows p q → IsRefusalTold p n e → IsRefusalTold q n e
+told-grows p q n e g h =
+    let refused : IsRefusedBy e (q.nodes n) = g.refusals n e h.0 in
+    (refused, ⊎_elim
+    (λ (ended : HasEnded e p.front.row). inl (ended-grows q.nodes e p.front.row q.front.row g.front ended))
+    (λ (offered : IsOffered n e p.front.row). ⊎_elim
+    (λ (still : IsOffered n e q.front.row). inr still)
+    (λ (other : HasStay e (q.nodes n).row ⊎ IsRefusalKnown q n e). ⊎_elim
+    (λ (stay : HasStay e (q.nodes n).row). absurd (stay-other e (q.nodes n).row stay refused.1))
+    (λ (known : IsRefusalKnown q n e). inl known.1) other)
+    (offered-goes q.nodes n e p.front.row q.front.row g.front offered)) h.1)
 
 offer-grows : (p q : Part) (n e : ℕ) → Grows p q → FrontSaid p n e kind.Offer → FrontSaid q n e kind.Offer
 offer-grows p q n e g h = ⊎_elim
     (λ (decided : IsDecided e (p.nodes n).row). inl (decided-grows e (p.nodes n).row (q.nodes n).row (g.nodes n) decided))
+    (λ (other : IsOffered n e p.front.row ⊎ IsRefusalKnown p n e). ⊎_elim
     (λ (offered : IsOffered n e p.front.row). ⊎_elim
-    (λ (still : IsOffered n e q.front.row). inr still)
-    (λ (now : IsDecided e (q.nodes n).row). inl now)
-    (offered-grows q.nodes n e p.front.row q.front.row g.front offered)) h
+    (λ (still : IsOffered n e q.front.row). inr (inl still))
+    (λ (now : IsDecided e (q.nodes n).row ⊎ IsRefusalKnown q n e). ⊎_elim
+    (λ (decided : IsDecided e (q.nodes n).row). inl decided) (λ (known : IsRefusalKnown q n e). inr (inr known)) now)
+    (offered-grows q.nodes n e p.front.row q.front.row g.front offered))
+    (λ (known : IsRefusalKnown p n e). inr (inr (g.refusals n e known.0, ended-grows q.nodes e p.front.row q.front.row g.front known.1))) other) h
 
 front_said-grows : (p q : Part) (n e : ℕ) (k : Kind) → Grows p q → FrontSaid p n e k → FrontSaid q n e k
 front_said-grows p q n e kind.Offer g h = offer-grows p q n e g h
 front_said-grows p q n e kind.EndedAck g h = ended-grows q.nodes e p.front.row q.front.row g.front h
+front_said-grows p q n e kind.Given g h = ended-grows q.nodes e p.front.row q.front.row g.front h
 front_said-grows p q n e _ g h = tt
 
-node_said-grows : (o r : Option BackRow) (e : ℕ) (k : Kind) → BackGrows o r → NodeSaid o e k → NodeSaid r e k
-node_said-grows o r e kind.Offer g h = absurd h
-node_said-grows o r e kind.Taken g h = decided-grows e o r g h
-node_said-grows o r e kind.Ended g h = over-grows e o r g h
-node_said-grows o r e kind.Refused g h = absurd h
-node_said-grows o r e kind.Give g h = absurd h
-node_said-grows o r e _ g h = tt
+node_said-grows : (p q : Part) (n e : ℕ) (k : Kind) → Grows p q → NodeSaid p n e k → NodeSaid q n e k
+node_said-grows p q n e kind.Offer g h = absurd h
+node_said-grows p q n e kind.Taken g h = decided-grows e (p.nodes n).row (q.nodes n).row (g.nodes n) h
+node_said-grows p q n e kind.Ended g h = over-grows e (p.nodes n).row (q.nodes n).row (g.nodes n) h
+node_said-grows p q n e kind.Refused g h = told-grows p q n e g h
+node_said-grows p q n e kind.Give g h = absurd h
+node_said-grows p q n e _ g h = tt
 
 other_said-grows : (o r : Option BackRow) (e : ℕ) (k : Kind) → BackGrows o r → OtherSaid o e k → OtherSaid r e k
 other_said-grows o r e kind.Fetch g h = decided-grows e o r g h
@@ -84,7 +125,7 @@ other_said-grows o r e _ g h = tt
 
 pub may_say-grows : (p q : Part) (from to : Place) (h : Option Head) → Grows p q → MaySay p from to h → MaySay q from to h
 may_say-grows p q Front (Node n) (Some h) g m = front_said-grows p q n h.epoch h.kind g m
-may_say-grows p q (Node n) Front (Some h) g m = node_said-grows (p.nodes n).row (q.nodes n).row h.epoch h.kind (g.nodes n) m
+may_say-grows p q (Node n) Front (Some h) g m = node_said-grows p q n h.epoch h.kind g m
 may_say-grows p q (Node n) (Node k) (Some h) g m = other_said-grows (p.nodes n).row (q.nodes n).row h.epoch h.kind (g.nodes n) m
 may_say-grows p q _ _ _ g m = tt
 

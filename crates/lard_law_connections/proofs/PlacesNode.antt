@@ -1,9 +1,9 @@
 -- What a turn of a node owes.
 use Rattle.std.proofs.Common.{◌≡◌, ℕ, List, [], ◌∷◌, ◌++◌, Option, Some, None, inl, inr, refl, sym, ap, ◌∙◌, subst, arith}
-use Rattle.lard_law_view.specs.Prelude.{Asked, BackConn, BackRow, Client, Conn, Ending, Front, IsEarlyAway, IsMachine, Node, NodeEnv, NodePart, Part, Place, Rec, Seen, Turn, TurnSaid, Want, Work, all_sent, asked_sent, by_node, ended_sent, gave_by, kept_after, named_records, node_does, node_put_back, nothing_said, stands, tale_at, turn_by, wants_sent, with_node}
+use Rattle.lard_law_view.specs.Prelude.{Asked, BackConn, BackRow, Client, Conn, Ending, Front, IsOnceAway, IsMachine, Node, NodeEnv, NodePart, Part, Place, Rec, Seen, Turn, TurnSaid, Want, Work, all_sent, asked_sent, by_node, ended_sent, gave_by, kept_after, named_records, node_does, node_put_back, nothing_said, stands, tale_at, turn_by, wants_sent, with_node}
 use Rattle.lard_law_connections.specs.Places.{IsDecided, IsEven, IsOver, MaySay, Owning, Owns, Sits, owning}
 use Rattle.lard_law_connections.proofs.PlacesFront.{IsQuiet, Tells, turn-letters}
-use Rattle.lard_law_connections.proofs.PlacesGrowing.{BackGrows, back-still, front-still, grows-still}
+use Rattle.lard_law_connections.proofs.PlacesGrowing.{BackGrows, KeepsRefusals, back-still, front-still, grows-still}
 use Rattle.lard_law_connections.proofs.PlacesHeads.{spelled-head, spelled-some}
 use Rattle.lard_law_connections.proofs.PlacesRows.{IsPlain, OwnsBy, after_all, plain-after, plain-owns}
 use Rattle.lard_law_connections.proofs.PlacesTurns.{IsPlaced, Owes, Turned, timers-plain, turned-after, turned-owns}
@@ -46,8 +46,8 @@ module _ (x : Conn) (heads : List Seen) (quiet : IsQuiet x heads) where
   -- ---- one node's part changes
 
   pub node-owes : (n : ℕ) (s : TurnSaid) (q : NodePart) (v : Owning) → Turned x.c (Node n) w s v → Sits v (node_put_back x.part.nodes n q) x.part.front.row → BackGrows (x.part.nodes n).row q.row
-      → Each (Tells (with_node x.part n q) (Node n)) s.messages → Owes x (record { place = Node n; heads = heads; said = s; part = with_node x.part n q })
-  node-owes n s q v t sits grows tells =
+      → KeepsRefusals (x.part.nodes n) q → Each (Tells (with_node x.part n q) (Node n)) s.messages → Owes x (record { place = Node n; heads = heads; said = s; part = with_node x.part n q })
+  node-owes n s q v t sits grows refusals tells =
       let p : Part = with_node x.part n q in
       let timers = timers-plain (Node n) x.c x.part p in
       record {
@@ -57,6 +57,7 @@ module _ (x : Conn) (heads : List Seen) (quiet : IsQuiet x heads) where
         sits = subst (λ (u : Owning). Sits u p.nodes x.part.front.row) (sym (turned-after x.c (Node n) w v s _ t timers)) sits;
         grows = record {
           nodes = put-each x.part.nodes n q (λ m r. BackGrows (x.part.nodes m).row r.row) grows (λ m other. back-still (x.part.nodes m).row);
+          refusals = put-each x.part.nodes n q (λ m r. KeepsRefusals (x.part.nodes m) r) refusals (λ m other e h. h);
           front = front-still p.nodes x.part.front.row;
         };
         letters = turn-letters p (Node n) x.c w v s t tells;
@@ -67,9 +68,12 @@ module _ (x : Conn) (heads : List Seen) (quiet : IsQuiet x heads) where
 -- it sits at node n in whatever stage of this epoch
 pub record CanSit (x : Conn) (n e : ℕ) : Type 0 where
   pub even : IsEven e
-  pub early : IsEarlyAway e
+  pub early : IsOnceAway e
   pub sits : (v : Owning) (q : NodePart) (st : BackConn) → q.row ≡ Some (record { stage = st; epoch = record { 0 = e } }) → Owns n st v.owner → v.epoch ≡ e → Sits v (node_put_back x.part.nodes n q) x.part.front.row
   pub grows : (st : BackConn) → BackGrows (x.part.nodes n).row (Some (record { stage = st; epoch = record { 0 = e } }))
+  pub refusals : (q : NodePart) (st : BackConn) → q.row ≡ Some (record { stage = st; epoch = record { 0 = e } })
+      → q.beside.refused ≡ (x.part.nodes n).beside.refused
+      → KeepsRefusals (x.part.nodes n) q
 
 module _ (x : Conn) (heads : List Seen) (quiet : IsQuiet x heads) (n : ℕ) (env : NodeEnv) (number : env.serve.c ≡ x.c) (node : env.n ≡ n) (can : CanSit x n env.epoch) where
   abbrev owned : Owning
@@ -111,11 +115,13 @@ module _ (x : Conn) (heads : List Seen) (quiet : IsQuiet x heads) (n : ℕ) (env
   put_row st = record { stage = st; epoch = record { 0 = env.epoch } }
 
   -- What was in hand is put back: it stays, or it ended. The node owns it behind its notes.
-  pub rests-owe : (part : NodePart) (before : List (Place × List ℕ)) (k : Work) (given : Ending × Turn) (u : Owning) → u.owner ≡ Some (Node n) → u.epoch ≡ env.epoch
+  pub rests-owe : (part : NodePart) → part.beside.refused ≡ (x.part.nodes n).beside.refused
+      → (before : List (Place × List ℕ)) (k : Work) (given : Ending × Turn) (u : Owning) → u.owner ≡ Some (Node n) → u.epoch ≡ env.epoch
       → OwnsBy x.c owned (named_records given.1.notes) → after_all owned (named_records given.1.notes) ≡ u → AllTo (Client env.serve.c) given.1.segments
-      → Each (λ m. IsMachine m.0) before → ((q : NodePart) (st : BackConn) → q.row ≡ Some (put_row st) → Each (Tells (with_node x.part n q) (Node n)) before)
+      → Each (λ m. IsMachine m.0) before
+      → ((q : NodePart) (st : BackConn) → q.row ≡ Some (put_row st) → q.beside.refused ≡ (x.part.nodes n).beside.refused → Each (Tells (with_node x.part n q) (Node n)) before)
       → Owes x (node_does x n heads (Does (kept_after env part k given.0, turn_by env before k given)))
-  rests-owe part before k (ending.Here b count, turn) u mine epoch notes then to machines tells =
+  rests-owe part same before k (ending.Here b count, turn) u mine epoch notes then to machines tells =
       let q : NodePart = kept_after env part k (ending.Here b count) in
       let msgs : List (Place × List ℕ) = all_sent env before k in
       node-owes x heads quiet n (by_node (turn_by env before k (ending.Here b count, turn))) q u
@@ -126,9 +132,9 @@ module _ (x : Conn) (heads : List Seen) (quiet : IsQuiet x heads) (n : ℕ) (env
         messages = Each-append (λ m. IsMachine m.0) msgs [] (all-machines before k machines) tt;
         then = then;
       })
-      (can.sits u q (back.Here b) refl mine epoch) (can.grows (back.Here b))
-      (Each-append (Tells (with_node x.part n q) (Node n)) msgs [] (all-tells (with_node x.part n q) before k (put-decided q (back.Here b) refl) (tells q (back.Here b) refl)) tt)
-  rests-owe part before k (ending.Over last, turn) u mine epoch notes then to machines tells =
+      (can.sits u q (back.Here b) refl mine epoch) (can.grows (back.Here b)) (can.refusals q (back.Here b) refl same)
+      (Each-append (Tells (with_node x.part n q) (Node n)) msgs [] (all-tells (with_node x.part n q) before k (put-decided q (back.Here b) refl) (tells q (back.Here b) refl same)) tt)
+  rests-owe part same before k (ending.Over last, turn) u mine epoch notes then to machines tells =
       let q : NodePart = kept_after env part k (ending.Over last) in
       let p : Part = with_node x.part n q in
       let msgs : List (Place × List ℕ) = all_sent env before k in
@@ -142,8 +148,8 @@ module _ (x : Conn) (heads : List Seen) (quiet : IsQuiet x heads) (n : ℕ) (env
         messages = Each-append (λ m. IsMachine m.0) msgs end (all-machines before k machines) (tt, tt);
         then = ap (λ (o : Owning). after_all o (gave_by env (ending.Over last))) then;
       })
-      (can.sits v q back.Ended refl refl epoch) (can.grows back.Ended)
-      (Each-append (Tells p (Node n)) msgs end (all-tells p before k (put-decided q back.Ended refl) (tells q back.Ended refl)) (
+      (can.sits v q back.Ended refl refl epoch) (can.grows back.Ended) (can.refusals q back.Ended refl same)
+      (Each-append (Tells p (Node n)) msgs end (all-tells p before k (put-decided q back.Ended refl) (tells q back.Ended refl same)) (
         subst (λ h. MaySay p (Node n) Front h) (sym (spelled-head _ (omega (arith, can.early))))
             (subst (λ (r : NodePart). IsOver env.epoch r.row) (sym (put-same x.part.nodes n q)) (omega arith, λ same. tt)),
         tt,

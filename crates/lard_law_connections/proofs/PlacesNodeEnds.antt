@@ -3,14 +3,14 @@ use Rattle.std.proofs.Common.{◌≡◌, ◌≢◌, ◌⊎◌, ℕ, true, false,
 use Rattle.std.proofs.lemmas.Bool.{and_parts}
 use Rattle.lard_law_view.specs.Prelude.{Acknowledged, AreSent, BackConn, BackRow, Conn, ControlBlock, Front, FrontConn, FrontRow, IsConnSound, IsMachine, IsNodeEnv, Kept, Node, NodeDeed, NodeEnv, NodeGets, NodePart, Offered, Place, Seen, Setting, Stay, Work, after_timer, again_sent, awaits_ack, by_node, came_for, come_progress, goes_on, gone, is_ended, node_does, node_fired, node_put_back, node_rule, node_saying, on_segment, read_progress, serving, serving_ready_of, spoken, tagged, tale_at, timed, with_node, with_work, without, work_of}
 use Rattle.lard_base.specs.declared.place.TimerKind.TheVariants as kind
-use Rattle.lard_law_connections.specs.Places.{ArePast, HasEnded, IsComing, IsDecided, IsOffered, IsLeft, IsPast, IsThere, OthersArePast, Owning, Sits, StageSits, owning}
+use Rattle.lard_law_connections.specs.Places.{ArePast, HasEnded, IsComing, IsDecided, IsOffered, IsOfOther, IsLeft, IsPast, IsThere, OthersArePast, Owning, Sits, StageSits, owning}
 use Rattle.lard_law_connections.proofs.PlacesFront.{IsQuiet, Tells}
-use Rattle.lard_law_connections.proofs.PlacesFrontMessages.{came-says}
+use Rattle.lard_law_connections.proofs.PlacesFrontMessages.{came-says, offer-says}
 use Rattle.lard_law_connections.proofs.PlacesFrontRules.{resent-machines, resent-tells}
-use Rattle.lard_law_connections.proofs.PlacesGrowing.{BackGrows, Grows, back-still, front-still, may_say-grows}
+use Rattle.lard_law_connections.proofs.PlacesGrowing.{BackGrows, Grows, KeepsRefusals, back-still, front-still, may_say-grows}
 use Rattle.lard_law_connections.proofs.PlacesLoops.{came-notes, spoken-to, tagged-notes}
 use Rattle.lard_law_connections.proofs.PlacesNode.{node-owes, node-says, plain-turned}
-use Rattle.lard_law_connections.proofs.PlacesNodeRules.{HasIt, IsSaid, again-owe, begins-owe, dropped, goes-owe, has-here, plain-more, turn-owes}
+use Rattle.lard_law_connections.proofs.PlacesNodeRules.{HasIt, IsSaid, again-owe, begins-owe, dropped, goes-owe, has-here, keeps-refusals, plain-more, turn-owes}
 use Rattle.lard_law_connections.proofs.PlacesRows.{IsPlain}
 use Rattle.lard_law_connections.proofs.PlacesTurns.{IsPlaced, Owes}
 use Rattle.lard_law_view.proofs.Parts.{put-each}
@@ -102,6 +102,10 @@ module _ (k : Setting) (x : Conn) (heads : List Seen) (quiet : IsQuiet x heads) 
   ended-left back.Ended e = tt
   ended-left back.Gone e = tt
 
+  gone-other : (e : ℕ) (o : Option BackRow) → IsOfOther e o → IsOfOther e (gone o)
+  gone-other e None h = tt
+  gone-other e (Some row) h = h
+
   acked : (o : Option BackRow) → ours.row ≡ o → HasEnded env.epoch x.part.front.row → awaits_ack env.epoch o ≡ true → Owed (Does (record ours { row = gone ours.row; kept = without kind.Ended 0 ours.kept }, node_saying []))
   acked None found ended e = let no : false ≡ true = e in absurd cc
   acked (Some row) found ended e =
@@ -112,7 +116,8 @@ module _ (k : Setting) (x : Conn) (heads : List Seen) (quiet : IsQuiet x heads) 
       let left : IsLeft row.stage = ended-left row.stage tests.1 in
       let past : HasEnded row.epoch.0 x.part.front.row = subst (λ (d : ℕ). HasEnded d x.part.front.row) (sym same) ended in
       node-owes x heads quiet n (by_node (node_saying [])) q (owning (tale_at x)) (plain-turned x heads quiet (Node n) [] [] tt tt)
-      (gone-sits x held n row found left past q put) (gone-grows x held n row found left past q put) tt
+      (gone-sits x held n row found left past q put) (gone-grows x held n row found left past q put)
+      (keeps-refusals ours q refl (λ f other. gone-other f ours.row other)) tt
 
   all-were : AreSent x (Node n) (ours.kept ++ ours.fetches)
   all-were = sent-append x (Node n) ours.kept ours.fetches (sound.kept n) (sound.fetches n)
@@ -126,15 +131,17 @@ module _ (k : Setting) (x : Conn) (heads : List Seen) (quiet : IsQuiet x heads) 
   here-fires : (b : ControlBlock) (s : Stay) → HasIt x held n env.epoch
       → Owed (Does (node_fired env ours (b, s) (spoken env.serve (serving (after_timer b) s.served []) (serving_ready_of env.serve (after_timer b) (timed b)))))
   here-fires b s has =
-      turn-owes k x heads quiet held n epoch env is has ours (again_sent ours) (work_of (after_timer b) s)
+      turn-owes k x heads quiet held n epoch env is has ours refl (again_sent ours) (work_of (after_timer b) s)
       (spoken env.serve (serving (after_timer b) s.served []) (serving_ready_of env.serve (after_timer b) (timed b)))
       tt (spoken-to env.serve (serving (after_timer b) s.served []) (serving_ready_of env.serve (after_timer b) (timed b)) (ready-to env.serve (after_timer b) (timed b))) again-machines
-      (λ q st row. Each-weaker (Tells x.part (Node n)) (Tells (with_node x.part n q) (Node n))
-      (λ m. may_say-grows x.part (with_node x.part n q) (Node n) m.0 _ (grown-to q st row)) (again_sent ours) again-tells) where
-        grown-to : (q : NodePart) (st : BackConn) → q.row ≡ Some (record { stage = st; epoch = record { 0 = env.epoch } }) → Grows x.part (with_node x.part n q)
-        grown-to q st row = record {
+      (λ q st row same. Each-weaker (Tells x.part (Node n)) (Tells (with_node x.part n q) (Node n))
+      (λ m. may_say-grows x.part (with_node x.part n q) (Node n) m.0 _ (grown-to q st row same)) (again_sent ours) again-tells) where
+        grown-to : (q : NodePart) (st : BackConn) → q.row ≡ Some (record { stage = st; epoch = record { 0 = env.epoch } })
+            → q.beside.refused ≡ ours.beside.refused → Grows x.part (with_node x.part n q)
+        grown-to q st row same = record {
           nodes = put-each x.part.nodes n q (λ m r. BackGrows (x.part.nodes m).row r.row) (subst (BackGrows ours.row) (sym row) (has.can.grows st))
               (λ m other. back-still (x.part.nodes m).row);
+          refusals = put-each x.part.nodes n q (λ m r. KeepsRefusals (x.part.nodes m) r) (has.can.refusals q st row same) (λ m other e h. h);
           front = front-still (with_node x.part n q).nodes x.part.front.row;
         }
 
@@ -147,24 +154,25 @@ module _ (k : Setting) (x : Conn) (heads : List Seen) (quiet : IsQuiet x heads) 
   says : (g : NodeGets) → NodeComes x n epoch heads g → Says g
   says (Offered parts) comes =
       subst (λ (e : ℕ). IsDecided e ours.row ⊎ IsOffered n e x.part.front.row) (sym is.epoch_is)
-      (came-says x Front (Node n) epoch (body.Offer parts) comes.bytes held.letters comes.was comes.spells)
+      (offer-says x held n epoch parts comes.bytes comes.was comes.spells)
   says Acknowledged comes = subst (λ (e : ℕ). HasEnded e x.part.front.row) (sym is.epoch_is)
       (came-says x Front (Node n) epoch body.EndedAck comes.bytes held.letters comes.was comes.spells)
   says _ comes = tt
 
-  goes : (b : ControlBlock) (s : Stay) → IsHereWith env.epoch ours b s → (part : NodePart) (work : Work) → Each IsPlain work.service.notes
+  goes : (b : ControlBlock) (s : Stay) → IsHereWith env.epoch ours b s → (part : NodePart) → part.beside.refused ≡ ours.beside.refused → (work : Work)
+      → Each IsPlain work.service.notes
       → Owed (with_work env part [] (goes_on env work))
   goes b s at = goes-owe k x heads quiet held n epoch env is (has-here x held n env.epoch b s at)
 
   rules_owe : KeptByNode env ours Says Owed
   rules_owe = record {
     drops = dropped k x heads quiet held n epoch env is;
-    hears = λ said b s m at. goes b s at ours (work_of (on_segment b said).1 s) tt;
-    tags = λ number tags b s m at asked same count. goes b s at (record ours { kept = without kind.Ask 0 ours.kept }) (tagged env tags (work_of b s))
+    hears = λ said b s m at. goes b s at ours refl (work_of (on_segment b said).1 s) tt;
+    tags = λ number tags b s m at asked same count. goes b s at (record ours { kept = without kind.Ask 0 ours.kept }) refl (tagged env tags (work_of b s))
         (tagged-notes (Each IsPlain) plain-more env tags (work_of b s) tt);
-    comes = λ from r b s m at wanted. goes b s at (record ours { fetches = without kind.Fetch r ours.fetches })
+    comes = λ from r b s m at wanted. goes b s at (record ours { fetches = without kind.Fetch r ours.fetches }) refl
         (came_for (come_progress from) r (work_of b s)) (came-notes (Each IsPlain) plain-more (come_progress from) r (work_of b s) tt);
-    reads = λ r path b s m at. goes b s at ours (came_for read_progress r (work_of b s))
+    reads = λ r path b s m at. goes b s at ours refl (came_for read_progress r (work_of b s))
         (came-notes (Each IsPlain) plain-more read_progress r (work_of b s) tt);
     begins = λ parts m new. begins-owe k x heads quiet held n epoch env is parts m new;
     takes_again = λ parts m again. again-owe k x heads quiet held n epoch env is again;

@@ -1,17 +1,18 @@
 -- The rules of a node, one by one.
 use Rattle.std.proofs.Common.{◌≡◌, ◌≢◌, ◌⊎◌, ℕ, ◌<◌, ◌==◌, ◌&&◌, nat_lt, Bool, true, false, cond, List, [], ◌∷◌, ◌++◌, Option, Some, None, inr, ⊎_elim, refl, sym, ap, ◌∙◌, subst, arith, eqb-true, eq-eqb}
 use Rattle.std.proofs.lemmas.Bool.{ltb-true}
-use Rattle.lard_law_view.specs.Prelude.{BackConn, BackRow, Client, Conn, ControlBlock, Ending, EndpointParts, Epoch, Front, FrontConn, FrontRow, IsEarlyAway, IsEarlyOver, IsMachine, IsNodeEnv, Node, NodeDeed, NodeEnv, NodePart, Place, Rec, Seen, Setting, Stay, Turn, Work, goes_on, here, is_gone, kept_after, named_records, node_begins, node_does, node_put_back, offer_answer, reads_batch, serving_settled, state_of, taken_sent, tale_at, turn_by, with_node, with_work}
-use Rattle.lard_law_connections.specs.Places.{IsComing, IsDecided, IsEven, IsLeft, IsOffered, IsPast, IsRowEarly, IsThere, MaySay, Offers, OthersArePast, Owning, Owns, Sits, StageSits, owning}
+use Rattle.lard_law_view.specs.Prelude.{BackConn, BackRow, Client, Conn, ControlBlock, Ending, EndpointParts, Epoch, Front, FrontConn, FrontRow, IsOnceAway, IsOnceOver, IsMachine, IsNodeEnv, Node, NodeDeed, NodeEnv, NodePart, Place, Rec, Seen, Setting, Stay, Turn, Work, goes_on, here, is_gone, kept_after, named_records, node_begins, node_does, node_put_back, offer_answer, reads_batch, serving_settled, state_of, taken_sent, tale_at, turn_by, with_node, with_work}
+use Rattle.lard_law_connections.specs.Places.{IsComing, IsDecided, IsEven, IsLeft, IsOffered, IsOfOther, IsPast, IsRowEarly, IsThere, IsReachedBy, MaySay, Offers, OthersArePast, Owning, Owns, Sits, StageSits, owning}
 use Rattle.lard_law_connections.proofs.PlacesFront.{IsQuiet, Tells}
 use Rattle.lard_law_connections.proofs.PlacesFrontRules.{there-decided}
-use Rattle.lard_law_connections.proofs.PlacesGrowing.{BackGrows}
+use Rattle.lard_law_connections.proofs.PlacesGrowing.{BackGrows, KeepsRefusals}
 use Rattle.lard_law_connections.proofs.PlacesHeads.{spelled-head}
 use Rattle.lard_law_connections.proofs.PlacesLoops.{batch-state, goes-notes, settled-is}
 use Rattle.lard_law_connections.proofs.PlacesNode.{CanSit, node-drops, node-says, rests-owe}
 use Rattle.lard_law_connections.proofs.PlacesRows.{IsPlain, OwnsBy, after_all, plain-after, plain-named, plain-owns}
 use Rattle.lard_law_connections.proofs.PlacesTurns.{IsPlaced, Owes, early-at, small-early}
 use Rattle.lard_law_view.proofs.Parts.{put-each, put-same}
+use Rattle.lard_handoff_back.specs.Leaving.{exceeds}
 use Rattle.lard_handoff_back.specs.declared.row.BackConn.TheVariants as back
 use Rattle.lard_handoff_back.specs.declared.table.Adopt.TheVariants.{New, Again, Stale}
 use Rattle.lard_handoff_front.specs.declared.row.FrontConn.TheVariants as stage
@@ -24,10 +25,10 @@ use Rattle.lard_law_view.proofs.EndpointSends.{AllTo}
 -- ---- where a node's row stands
 
 -- every row of a node is of a small epoch
-past-small : (e : ℕ) (o : Option BackRow) (row : BackRow) → IsEarlyOver e → o ≡ Some row → IsPast e o → IsEarlyOver row.epoch.0
+past-small : (e : ℕ) (o : Option BackRow) (row : BackRow) → IsOnceOver e → o ≡ Some row → IsPast e o → IsOnceOver row.epoch.0
 past-small e o row le is h = let past : IsPast e (Some row) = subst (IsPast e) is h in omega (arith, past.0, le)
 
-there-small : (n e : ℕ) (w : Owning) (o : Option BackRow) (row : BackRow) → IsEarlyOver e → o ≡ Some row → IsThere n e w o → IsEarlyOver row.epoch.0
+there-small : (n e : ℕ) (w : Owning) (o : Option BackRow) (row : BackRow) → IsOnceOver e → o ≡ Some row → IsThere n e w o → IsOnceOver row.epoch.0
 there-small n e w o row le is h = let there : IsThere n e w (Some row) = subst (IsThere n e w) is h in omega (arith, there.0, le)
 
 -- of the node to which it was offered, or of another one
@@ -36,6 +37,10 @@ by-node n m P same other = go (m == n) refl where
   go : (b : Bool) → (m == n) ≡ b → P
   go true e = same (eqb-true m n e)
   go false e = other (λ is. let yes : true ≡ false = sym (eq-eqb m n is) ∙ e in cc)
+
+-- what was refused stays so where its stay is of another epoch still
+pub keeps-refusals : (p q : NodePart) → q.beside.refused ≡ p.beside.refused → ((e : ℕ) → IsOfOther e p.row → IsOfOther e q.row) → KeepsRefusals p q
+keeps-refusals p q same others e h = (subst (IsReachedBy e) (sym same) h.0, others e h.1)
 
 -- a row that holds an endpoint is not past
 pub past-held : (e : ℕ) (o : Option BackRow) (row : BackRow) (b : ControlBlock) → o ≡ Some row → row.stage ≡ back.Here b → IsPast e o → ⊥
@@ -51,22 +56,22 @@ module _ (x : Conn) (held : IsPlaced x) where
 
   -- ---- small epochs
 
-  row-small : (n : ℕ) (row : BackRow) → (nodes n).row ≡ Some row → (o : Option FrontRow) → Sits w nodes o → IsRowEarly o → IsEarlyOver row.epoch.0
+  row-small : (n : ℕ) (row : BackRow) → (nodes n).row ≡ Some row → (o : Option FrontRow) → Sits w nodes o → IsRowEarly o → IsOnceOver row.epoch.0
   row-small n row is None h early = past-small 0 (nodes n).row row (omega arith) is (h.1 n)
   row-small n row is (Some f) h early = go f.stage h.0 where
-    le : IsEarlyOver f.epoch.0
+    le : IsOnceOver f.epoch.0
     le = small-early f.epoch.0 f.stage early
 
-    go : (st : FrontConn) → StageSits f.epoch.0 w nodes st → IsEarlyOver row.epoch.0
+    go : (st : FrontConn) → StageSits f.epoch.0 w nodes st → IsOnceOver row.epoch.0
     go (stage.Held b) s = past-small f.epoch.0 (nodes n).row row le is (s.1.1 n)
     go (stage.Waiting b) s = past-small f.epoch.0 (nodes n).row row le is (s.1.1 n)
     go stage.Lent s = absurd s
-    go (stage.Offering m d) s = by-node m n (IsEarlyOver row.epoch.0)
+    go (stage.Offering m d) s = by-node m n (IsOnceOver row.epoch.0)
         (λ same. ⊎_elim
         (λ (coming : IsComing f.epoch.0 w (nodes m).row). past-small f.epoch.0 (nodes m).row row le (subst (λ (j : ℕ). (nodes j).row ≡ Some row) same is) coming.2)
         (λ (there : IsThere m f.epoch.0 w (nodes m).row). there-small m f.epoch.0 w (nodes m).row row le (subst (λ (j : ℕ). (nodes j).row ≡ Some row) same is) there) s.3)
         (λ other. past-small f.epoch.0 (nodes n).row row le is (s.2 n other))
-    go (stage.Moved m d) s = by-node m n (IsEarlyOver row.epoch.0)
+    go (stage.Moved m d) s = by-node m n (IsOnceOver row.epoch.0)
         (λ same. there-small m f.epoch.0 w (nodes m).row row le (subst (λ (j : ℕ). (nodes j).row ≡ Some row) same is) s.3)
         (λ other. past-small f.epoch.0 (nodes n).row row le is (s.2 n other))
     go (stage.Closed last) s = past-small f.epoch.0 (nodes n).row row le is (s.1.1 n)
@@ -99,7 +104,7 @@ module _ (x : Conn) (held : IsPlaced x) where
       )
 
   has-there : (f : FrontRow) (n : ℕ) (row : BackRow) (b : ControlBlock) → x.part.front.row ≡ Some f → (nodes n).row ≡ Some row → row.stage ≡ back.Here b → (st : FrontConn) → f.stage ≡ st
-      → StageSits f.epoch.0 w nodes st → IsEven f.epoch.0 → IsEarlyAway f.epoch.0 → OthersArePast n f.epoch.0 nodes → IsThere n f.epoch.0 w (nodes n).row
+      → StageSits f.epoch.0 w nodes st → IsEven f.epoch.0 → IsOnceAway f.epoch.0 → OthersArePast n f.epoch.0 nodes → IsThere n f.epoch.0 w (nodes n).row
       → ((v : Owning) (ps : ℕ → NodePart) → OthersArePast n f.epoch.0 ps → IsThere n f.epoch.0 v (ps n).row → StageSits f.epoch.0 v ps st) → HasIt n row.epoch.0
   has-there f n row b found is at st stage_is s even early others there make =
       let t : IsThere n f.epoch.0 w (Some row) = subst (IsThere n f.epoch.0 w) is there in
@@ -108,10 +113,11 @@ module _ (x : Conn) (held : IsPlaced x) where
       record {
         can = record {
           even = subst IsEven (sym t.0) even;
-          early = subst IsEarlyAway (sym t.0) early;
+          early = subst IsOnceAway (sym t.0) early;
           sits = offering-sits f n row.epoch.0 found st stage_is s (sym t.0) past make;
           grows = λ c. subst (λ (o : Option BackRow). BackGrows o (Some (record { stage = c; epoch = record { 0 = row.epoch.0 } }))) (sym is)
               (omega arith, λ same left. absurd (subst IsLeft at left));
+          refusals = λ q c put same. keeps-refusals (nodes n) q same (λ e other. subst (IsOfOther e) (sym put) (subst (IsOfOther e) is other));
         };
         owner = owns;
         epoch = t.1 ∙ sym t.0;
@@ -214,22 +220,25 @@ module _ (k : Setting) (x : Conn) (heads : List Seen) (quiet : IsQuiet x heads) 
   dropped = node-drops x heads quiet held n
 
   -- a turn of a connection that is here
-  pub turn-owes : HasIt x held n env.epoch → (part : NodePart) (before : List (Place × List ℕ)) (work : Work) (given : Ending × Turn) → Each IsPlain given.1.notes → AllTo (Client env.serve.c) given.1.segments
+  pub turn-owes : HasIt x held n env.epoch → (part : NodePart) → part.beside.refused ≡ ours.beside.refused
+      → (before : List (Place × List ℕ)) (work : Work) (given : Ending × Turn) → Each IsPlain given.1.notes → AllTo (Client env.serve.c) given.1.segments
       → Each (λ m. IsMachine m.0) before
-      → ((q : NodePart) (st : BackConn) → q.row ≡ Some (record { stage = st; epoch = record { 0 = env.epoch } }) → Each (Tells (with_node x.part n q) (Node n)) before)
+      → ((q : NodePart) (st : BackConn) → q.row ≡ Some (record { stage = st; epoch = record { 0 = env.epoch } }) → q.beside.refused ≡ ours.beside.refused → Each (Tells (with_node x.part n q) (Node n)) before)
       → Owed (Does (kept_after env part work given.0, turn_by env before work given))
-  turn-owes has part before work given plain to machines tells =
+  turn-owes has part same before work given plain to machines tells =
       let notes : Each IsPlain (named_records given.1.notes) = plain-named given.1.notes plain in
-      rests-owe x heads quiet n env is.number is.node has.can part before work given owned has.owner has.epoch
+      rests-owe x heads quiet n env is.number is.node has.can part same before work given owned has.owner has.epoch
       (plain-owns x.c owned (named_records given.1.notes) notes) (plain-after owned (named_records given.1.notes) notes) to machines tells
 
-  works-owe : HasIt x held n env.epoch → (part : NodePart) (work : Work) → Each IsPlain work.service.notes → Owed (with_work env part [] work)
-  works-owe has part work plain =
+  works-owe : HasIt x held n env.epoch → (part : NodePart) → part.beside.refused ≡ ours.beside.refused → (work : Work) → Each IsPlain work.service.notes
+      → Owed (with_work env part [] work)
+  works-owe has part same work plain =
       let done = settled-is env.serve work.service in
-      turn-owes has part [] work (serving_settled env.serve work.service) (subst (Each IsPlain) (sym done.notes) plain) done.to tt (λ q st e. tt)
+      turn-owes has part same [] work (serving_settled env.serve work.service) (subst (Each IsPlain) (sym done.notes) plain) done.to tt (λ q st e f. tt)
 
-  pub goes-owe : HasIt x held n env.epoch → (part : NodePart) (work : Work) → Each IsPlain work.service.notes → Owed (with_work env part [] (goes_on env work))
-  goes-owe has part work plain = works-owe has part (goes_on env work) (goes-notes (Each IsPlain) plain-more env work plain)
+  pub goes-owe : HasIt x held n env.epoch → (part : NodePart) → part.beside.refused ≡ ours.beside.refused → (work : Work) → Each IsPlain work.service.notes
+      → Owed (with_work env part [] (goes_on env work))
+  goes-owe has part same work plain = works-owe has part same (goes_on env work) (goes-notes (Each IsPlain) plain-more env work plain)
 
   -- ---- an Offer
 
@@ -241,11 +250,11 @@ module _ (k : Setting) (x : Conn) (heads : List Seen) (quiet : IsQuiet x heads) 
       let all : Begins (took_by env) given.1.notes = begun-notes env parts in
       let plain : Each IsPlain (named_records all.0) = plain-named all.0 all.2 in
       let u : Owning = record { owner = Some (Node env.n); epoch = env.epoch } in
-      rests-owe x heads quiet n env is.number is.node can ours (taken_sent env) work given u (ap (λ (m : ℕ). Some (Node m)) is.node) refl
+      rests-owe x heads quiet n env is.number is.node can ours refl (taken_sent env) work given u (ap (λ (m : ℕ). Some (Node m)) is.node) refl
       (subst (λ (l : List Rec). OwnsBy x.c owned (named_records l)) (sym all.1) ((is.number, before, free), plain-owns x.c u (named_records all.0) plain))
       (subst (λ (l : List Rec). after_all owned (named_records l) ≡ u) (sym all.1) (plain-after u (named_records all.0) plain))
       (settled-is env.serve work.service).to (tt, tt)
-      (λ q st row. (
+      (λ q st row same. (
         subst (λ h. MaySay (with_node x.part n q) (Node n) Front h) (sym (spelled-head _ (omega (arith, can.early))))
             (subst (λ (r : NodePart). IsDecided env.epoch r.row) (sym (put-same x.part.nodes n q)) (subst (IsDecided env.epoch) (sym row) (omega arith))),
         tt,
@@ -253,9 +262,9 @@ module _ (k : Setting) (x : Conn) (heads : List Seen) (quiet : IsQuiet x heads) 
 
   -- an Offer of this epoch that is on its way to this node, where nothing was decided
   comes-owe : (parts : EndpointParts) (f : FrontRow) (d : Epoch) → x.part.front.row ≡ Some f → f.stage ≡ stage.Offering n d → d.0 ≡ env.epoch
-      → (IsDecided env.epoch ours.row → ⊥)
+      → (IsDecided env.epoch ours.row → ⊥) → exceeds env.epoch ours.beside.refused ≡ true
       → Owed (with_work env ours (taken_sent env) (begun_work env parts))
-  comes-owe parts f d found at same undecided =
+  comes-owe parts f d found at same undecided above =
       let h : Sits owned x.part.nodes (Some f) = subst (Sits owned x.part.nodes) found held.sits in
       let s : StageSits f.epoch.0 owned x.part.nodes (stage.Offering n d) = subst (StageSits f.epoch.0 owned x.part.nodes) at h.0 in
       let now : f.epoch.0 ≡ env.epoch = sym s.1 ∙ same in
@@ -266,14 +275,19 @@ module _ (k : Setting) (x : Conn) (heads : List Seen) (quiet : IsQuiet x heads) 
       took-owes parts
       (record {
         even = subst IsEven now s.0;
-        early = subst IsEarlyAway now (early-at x held f found (stage.Offering n d) at);
+        early = subst IsOnceAway now (early-at x held f found (stage.Offering n d) at);
         sits = offering-sits x held f n env.epoch found (stage.Offering n d) at s now others (λ v ps past there. (s.0, s.1, past, inr there));
         grows = λ st. fresh ours.row st (subst (λ (e : ℕ). IsPast e ours.row) now coming.2);
+        refusals = λ q st put kept e h. (subst (IsReachedBy e) (sym kept) h.0, subst (IsOfOther e) (sym put) (later ours.beside.refused e above h.0));
       })
       coming.0 (omega (arith, coming.1, now)) where
         fresh : (o : Option BackRow) (st : BackConn) → IsPast env.epoch o → BackGrows o (Some (record { stage = st; epoch = record { 0 = env.epoch } }))
         fresh None st past = tt
         fresh (Some row) st past = (omega (arith, past.0), λ same. absurd (omega (arith, past.0, same)))
+
+        later : (o : Option Epoch) (e : ℕ) → exceeds env.epoch o ≡ true → IsReachedBy e o → env.epoch ≢ e
+        later None e more h = absurd h
+        later (Some d) e more h = λ same. let less : d.0 < env.epoch = ltb-true d.0 env.epoch more in absurd (omega (arith, less, h, same))
 
   -- what an Offer that came says
   abbrev pub IsSaid : Type 0
@@ -283,12 +297,15 @@ module _ (k : Setting) (x : Conn) (heads : List Seen) (quiet : IsQuiet x heads) 
       → Owed (with_work env ours (taken_sent env) (begun_work env parts))
   begins-owe parts said new = by-row x.part.front.row refl
       (⊎_elim (λ (d : IsDecided env.epoch ours.row). absurd (undecided d)) (λ (o : IsOffered n env.epoch x.part.front.row). o) said) where
+        above : exceeds env.epoch ours.beside.refused ≡ true
+        above = subst (λ (o : Option Epoch). exceeds env.epoch o ≡ true) (sym (held.unrefused n)) refl
+
         undecided : IsDecided env.epoch ours.row → ⊥
         undecided = not-decided env.epoch ours.row new
 
         at-stage : (f : FrontRow) → x.part.front.row ≡ Some f → (st : FrontConn) → f.stage ≡ st → Offers n env.epoch st
             → Owed (with_work env ours (taken_sent env) (begun_work env parts))
-        at-stage f found (stage.Offering m d) at offers = comes-owe parts f d found (subst (λ (j : ℕ). f.stage ≡ stage.Offering j d) offers.0 at) offers.1 undecided
+        at-stage f found (stage.Offering m d) at offers = comes-owe parts f d found (subst (λ (j : ℕ). f.stage ≡ stage.Offering j d) offers.0 at) offers.1 undecided above
         at-stage f found _ at offers = absurd offers
 
         by-row : (o : Option FrontRow) → x.part.front.row ≡ o → IsOffered n env.epoch o
@@ -300,7 +317,7 @@ module _ (k : Setting) (x : Conn) (heads : List Seen) (quiet : IsQuiet x heads) 
   pub again-owe : offer_answer env.epoch ours.row ≡ Again → Owed (Says (taken_sent env))
   again-owe again =
       let row = decided-again env.epoch ours.row again in
-      let le : IsEarlyOver row.0.epoch.0 = row-small x held n row.0 row.1 x.part.front.row held.sits held.early in
+      let le : IsOnceOver row.0.epoch.0 = row-small x held n row.0 row.1 x.part.front.row held.sits held.early in
       node-says x heads quiet held n (taken_sent env) (tt, tt) (
         subst (λ h. MaySay x.part (Node n) Front h) (sym (spelled-head _ (omega (arith, row.2, le))))
             (subst (IsDecided env.epoch) (sym row.1) (omega (arith, row.2))),

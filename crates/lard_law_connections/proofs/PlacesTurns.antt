@@ -1,9 +1,9 @@
 -- What a move owes: its records may stand, and behind them the connection sits where they say.
-use Rattle.std.proofs.Common.{◌≡◌, ◌⊎◌, ℕ, List, [], ◌++◌, map, Some, ⊎_elim, sym, ap, ◌∙◌, subst, arith}
+use Rattle.std.proofs.Common.{◌≡◌, ◌⊎◌, ℕ, List, [], ◌++◌, map, None, Some, ⊎_elim, sym, ap, ◌∙◌, subst, arith}
 use Rattle.std.proofs.lemmas.List.Sums.{fold-append}
 use Rattle.std.specs.List.{fold}
-use Rattle.lard_law_view.specs.Prelude.{Client, Conn, EachRow, FrontConn, FrontRow, IsEarlyOver, IsMachine, Move, Part, Place, Rec, Row, Tale, TurnSaid, grown, letters_of, rows_of, seen_in, seen_step, tale_at, tale_step, timer_rows, told_on, untold}
-use Rattle.lard_law_connections.specs.Places.{HasEarlyEpoch, IsRowEarly, IsStageEarly, LetterMay, Owning, Sits, SitsAt, owning}
+use Rattle.lard_law_view.specs.Prelude.{Client, Conn, EachRow, FrontConn, FrontRow, IsOnceOver, IsMachine, Move, Part, Place, Rec, Row, Tale, TurnSaid, grown, letters_of, rows_of, seen_in, seen_step, tale_at, tale_step, timer_rows, told_on, untold}
+use Rattle.lard_law_connections.specs.Places.{HasEarlyEpoch, IsRowEarly, IsRefusedBy, IsStageEarly, IsReachedBy, LetterMay, Owning, Sits, SitsAt, owning}
 use Rattle.lard_law_connections.proofs.PlacesGrowing.{Grows, letters-grow}
 use Rattle.lard_law_connections.proofs.PlacesRows.{IsPlain, MayStand, OwnsBy, after_all, machines-own, owner-owns, owns-append, owns-told, plain-after, plain-owns, sends-after}
 use Rattle.lard_law_view.specs.View.{sending}
@@ -72,19 +72,28 @@ module _ (c : ℕ) (place : Place) (w v : Owning) (s : TurnSaid) (timers : List 
 
 -- ---- one connection
 
+-- INTERIM: no node refuses a connection yet
+abbrev pub IsUnrefused : Conn → Type 0
+IsUnrefused x = (n : ℕ) → (x.part.nodes n).beside.refused ≡ None
+
 -- Of each connection: it sits where its places say, in an early epoch, what its packets say is so, and each of its records may stand.
 pub record IsPlaced (x : Conn) : Type 0 where
   pub sits : SitsAt x
   pub early : HasEarlyEpoch x
   pub letters : Each (LetterMay x.part) x.letters
   pub lawful : EachRow (MayBeSeen (MayStand x.c) x.c) [] x.seen
+  pub unrefused : IsUnrefused x
+
+-- INTERIM
+pub no-refusal : (x : Conn) → IsPlaced x → (n e : ℕ) → IsRefusedBy e (x.part.nodes n) → ⊥
+no-refusal x placed n e h = subst (IsReachedBy e) (placed.unrefused n) h.0
 
 -- how late it is, once its row was found
 pub early-at : (x : Conn) → IsPlaced x → (row : FrontRow) → x.part.front.row ≡ Some row → (st : FrontConn) → row.stage ≡ st → IsStageEarly row.epoch.0 st
 early-at x placed row found st at = subst (IsStageEarly row.epoch.0) at (subst IsRowEarly found placed.early)
 
 -- in every stage the epoch is small
-pub small-early : (e : ℕ) (st : FrontConn) → IsStageEarly e st → IsEarlyOver e
+pub small-early : (e : ℕ) (st : FrontConn) → IsStageEarly e st → IsOnceOver e
 small-early e (stage.Held b) h = omega (arith, h)
 small-early e (stage.Waiting b) h = omega (arith, h)
 small-early e stage.Lent h = omega (arith, h)
@@ -114,8 +123,9 @@ module _ (x : Conn) (v : Move) (o : Owes x v) (h : IsPlaced x) where
       ∙ seen-rows (tale_step x.c) (tale_before x v) (rows_of x v))
       ∙ told.1 ∙ ap (λ (w : Owning). after_all w (rows_of x v)) o.same
 
-  pub owes-placed : HasEarlyEpoch (grown x v) → IsPlaced (grown x v)
-  owes-placed early = record {
+  pub owes-placed : HasEarlyEpoch (grown x v) → IsUnrefused (grown x v) → IsPlaced (grown x v)
+  owes-placed early unrefused = record {
+    unrefused = unrefused;
     sits = subst (λ (w : Owning). Sits w v.part.nodes v.part.front.row) (sym grown-owning) o.sits;
     early = early;
     letters = Each-append (LetterMay v.part) x.letters (letters_of v) (letters-grow x.part v.part o.grows x.letters h.letters) o.letters;

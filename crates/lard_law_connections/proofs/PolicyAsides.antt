@@ -3,8 +3,7 @@ use Rattle.std.proofs.Common.{◌≡◌, ℕ, List, [], ◌∷◌, ◌++◌, Opt
 use Rattle.std.proofs.lemmas.List.Sums.{fold-append}
 use Rattle.std.specs.List.{fold}
 use Rattle.lard_law_view.specs.Prelude.{Client, Config, EachMay, Front, Node, Place, Rec}
-use Rattle.lard_law_view.proofs.Saying.{NotedAt}
-use Rattle.lard_law_view.proofs.Shapes.{NamesNobody}
+use Rattle.lard_law_view.proofs.Saying.{NamesNobody, NotedAt}
 use Rattle.lard_law_connections.proofs.Calm.{Allows, AllowsNotes}
 use Rattle.lard_law_connections.proofs.Forms.{IsNoFront}
 use Rattle.lard_law_connections.specs.PolicyLaws.{ArePaired, AssignmentDue, MayAdmit, MayAssign, MayRelease, MayShare, but_closed_step, last_but_closed, last_record}

@@ -6,11 +6,12 @@ use Rattle.std.specs.FinMap as map
 use Rattle.std.specs.FinMap.{get-empty, len-empty}
 use Rattle.std.specs.List.{fold}
 use Rattle.std.specs.Ordering.{nat_cmp}
-use Rattle.lard_law_view.specs.Prelude.{Books, Config, EachMay, Event, Front, FrontState, HasRule, IsFrontSound, IsReached, IsViewed, Machine, Millis, Out, Rec, Standing, Waiting, clocked, config_check, front_gave, front_setting, front_step, machine_start, machine_step, machine_told, room_of, time_step}
+use Rattle.lard_law_view.specs.Prelude.{Books, Config, EachMay, Event, Front, FrontIn, FrontState, HasRule, IsFrontSound, IsReached, IsViewed, Machine, MayClose, Millis, Out, Rec, Standing, Waiting, clocked, config_check, front_gave, front_setting, front_step, machine_start, machine_step, machine_told, room_of, time_step}
 use Rattle.lard_base.specs.declared.event.Event.TheVariants as event
 use Rattle.lard_law_connections.proofs.PolicyAsides.{EachAfter, EachFrom, IsAside, May, MayFollow, after-may, allows-aside, from-may, may-from, note-aside, paired-append}
 use Rattle.lard_law_connections.proofs.Calm.{IsCalm, first-calm, first_rows, last-calm, last_rows, told-journal}
-use Rattle.lard_law_connections.proofs.Forms.{Clocks, FrontStays, FrontStep, front-calm, front-form}
+use Rattle.lard_law_connections.proofs.Forms.{Clocks, ComesToFront, FrontStays, FrontStep, front-calm, front-form}
+use Rattle.lard_law_connections.proofs.PlacesRuns.{may-come}
 use Rattle.lard_law_connections.proofs.PolicyHomes.{stands-so}
 use Rattle.lard_law_connections.proofs.PolicyIns.{AreIn, length-others}
 use Rattle.lard_law_connections.proofs.PolicyLeading.{Leads, aside-leads, at, behind-asides, both-lead}
@@ -20,7 +21,8 @@ use Rattle.lard_law_connections.proofs.PolicyNumbers.{IsNumbered, reached-number
 use Rattle.lard_law_connections.proofs.PolicyOrder.{IsNeither, IsOrdered, aside-neither, between-ordered, none-ordered}
 use Rattle.lard_law_connections.proofs.PolicyServers.{modified, served}
 use Rattle.lard_law_connections.proofs.PolicyStanding.{HasNodes, all-has, blank-has, told-open}
-use Rattle.lard_law_connections.proofs.PolicySteps.{StepTells, step-tells}
+use Rattle.lard_law_connections.proofs.PolicySteps.{step-tells}
+use Rattle.lard_law_connections.proofs.PolicyTelling.{StepTells}
 use Rattle.lard_law_connections.proofs.PolicyWaiting.{Leaves, asides-idle, between-leaves, idle-leaves, who}
 use Rattle.lard_law_connections.specs.PolicyLine.{IsSublist, waiting, waiting_step}
 use Rattle.lard_law_connections.specs.PolicyLaws.{AdmitsByRoom, AdmitsFirst, AdmitsInOrder, AdmitsToANode, ArePaired, AssignsAsStated, BooksAreTold, LineIsTold, LoadsAreAlwaysCharges, MayAdmit, MayAssign, MayRelease, MayShare, PassesOn, ReleasesWhatItTook, ServersAreTold, SharesOneBatch, StandingsAreTold, RoomIsNeverPassed, last_but_closed, last_record}
@@ -29,6 +31,7 @@ use Rattle.lard_counts.specs.Ledger.{Ledger, ledger_admitted, blank_ledger, ledg
 use Rattle.lard_law_connections.specs.PolicyLoads.{charges}
 use Rattle.lard_dispatch.proofs.AllCalls.{some-node}
 use Rattle.lard_loads.proofs.Charged.{IsCharged}
+use Rattle.lard_law_view.proofs.ByteLists.{each-before}
 use Rattle.lard_law_view.proofs.Carried.{carried-keep, reached-viewed}
 use Rattle.lard_rules.proofs.FrontStepping.{start-sound, step-stays}
 use Rattle.lard_history.proofs.Each.{Each, Each-weaker, each_append, each_then, each_weaker}
@@ -157,16 +160,21 @@ module _ (cfg : Config) (m : Machine) (counted : IsCounted cfg m) where
 
   -- ---- a step
 
-  step-counted : (n : Machine) (e : Event) → IsViewed m → HasRule e → machine_step m e ≡ Ok n → IsCounted cfg n
-  step-counted n e view rule is = ⊎_elim stays (⊎_elim moves clocks) (front-form m n e is) where
+  -- what comes in the step of this event may come
+  abbrev MayComeBy : Event → Type 0
+  MayComeBy e = (comes : FrontIn) → ComesToFront m e comes → MayClose m.front comes
+
+  step-counted : (n : Machine) (e : Event) → MayComeBy e → IsViewed m → HasRule e → machine_step m e ≡ Ok n → IsCounted cfg n
+  step-counted n e may view rule is = ⊎_elim stays (⊎_elim moves clocks) (front-form m n e is) where
     stays : FrontStays m e n → IsCounted cfg n
     stays s = calm-counted n s.front s.now (front-calm IsAside allows-aside note-aside m view e n rule is s)
 
     moves : FrontStep m e n → IsCounted cfg n
     moves s =
         let given : FrontState × Out = front_step (front_setting m) m.front s.comes in
-        subst (IsCounted cfg) (sym s.is) (moved-counted e given.0 given.1 (step-tells (front_setting m) m.front counted.sound counted.lined counted.ins counted.in_ s.comes s.may)
-        (step-stays (front_setting m) m.front s.comes s.may counted.sound).sound)
+        subst (IsCounted cfg) (sym s.is) (moved-counted e given.0 given.1
+        (step-tells (front_setting m) m.front counted.sound counted.lined counted.ins counted.in_ s.comes (may s.comes s.came))
+        (step-stays (front_setting m) m.front s.comes (may s.comes s.came) counted.sound).sound)
 
     clocks : Clocks m e n → IsCounted cfg n
     clocks c = subst (IsCounted cfg) (sym c.is) (clocked-counted c.ms)
@@ -195,8 +203,8 @@ module _ (cfg : Config) (m : Machine) (counted : IsCounted cfg m) where
       let rows : List Rec = rec.Event (m.events + 1) (event.Clock ms) ∷ rec.Clock (record { 0 = m.now + ms }) ∷ [] in
       let all : IsOrdered Line rows = none-ordered Line rows (tt, (tt, tt)) in (rows, refl, all.first, all.passes)
 
-  pub step-ordered : (n : Machine) (e : Event) → IsViewed m → HasRule e → machine_step m e ≡ Ok n → InOrder n
-  step-ordered n e view rule is = ⊎_elim stays (⊎_elim moves clocks) (front-form m n e is) where
+  pub step-ordered : (n : Machine) (e : Event) → MayComeBy e → IsViewed m → HasRule e → machine_step m e ≡ Ok n → InOrder n
+  step-ordered n e may view rule is = ⊎_elim stays (⊎_elim moves clocks) (front-form m n e is) where
     by-calm : IsCalm IsAside m n → InOrder n
     by-calm calm = let all : IsOrdered Line calm.0 = none-ordered Line calm.0 (neither calm.0 calm.2) in (calm.0, calm.1, all.first, all.passes)
 
@@ -206,7 +214,8 @@ module _ (cfg : Config) (m : Machine) (counted : IsCounted cfg m) where
     moves : FrontStep m e n → InOrder n
     moves s =
         let given : FrontState × Out = front_step (front_setting m) m.front s.comes in
-        subst InOrder (sym s.is) (moved-ordered e given.0 given.1 (step-tells (front_setting m) m.front counted.sound counted.lined counted.ins counted.in_ s.comes s.may))
+        subst InOrder (sym s.is) (moved-ordered e given.0 given.1
+        (step-tells (front_setting m) m.front counted.sound counted.lined counted.ins counted.in_ s.comes (may s.comes s.came)))
 
     clocks : Clocks m e n → InOrder n
     clocks c = subst InOrder (sym c.is) (clocked-ordered c.ms)
@@ -224,7 +233,8 @@ module _ (config : Config) (files : List (List ℕ × List ℕ)) (checked : conf
   start-counted = record { config_is = refl; sound = start-sound config checked; lined = tt; ins = []; in_ = none-in; is = refl; law = tt; paired = tt; follows = tt; line = tt }
 
   pub reached-counted : (m : Machine) → IsReached config files m → IsCounted config m
-  reached-counted m r = carried-keep config files (IsCounted config) start-counted (λ k n e on counted rule is. step-counted config k counted n e on.view rule is) m r
+  reached-counted m r = carried-keep config files (IsCounted config) start-counted
+      (λ k n e on counted rule is. step-counted config k counted n e (may-come config files k on.reached e) on.view rule is) m r
 
 -- ---- what is told
 
@@ -240,7 +250,8 @@ pub admits-to-a-node : AdmitsToANode
 admits-to-a-node config files m checked r = (reached-counted config files checked m r).paired
 
 pub admits-in-order : AdmitsInOrder
-admits-in-order config files m n e checked r rule is = step-ordered config m (reached-counted config files checked m r) n e (reached-viewed config files m r) rule is
+admits-in-order config files m n e checked r rule is =
+    step-ordered config m (reached-counted config files checked m r) n e (may-come config files m r e) (reached-viewed config files m r) rule is
 
 pub shares-one-batch : SharesOneBatch
 shares-one-batch config files m checked r =
@@ -281,11 +292,6 @@ stays-within config files m checked r past later is =
     all-within config [] past (each_then (λ past r. MayAdmit config (ledger config past) r) m.journal past later is (admits-by-room config files m checked r)) (omega arith)
 
 -- ---- loads
-
--- a part of a list
-each-before : (P : Rec → Type 0) (xs ys : List Rec) → Each P (xs ++ ys) → Each P xs
-each-before P [] ys e = tt
-each-before P (x ∷ xs) ys e = (e.0, each-before P xs ys e.1)
 
 module _ (config : Config) (files : List (List ℕ × List ℕ)) (m : Machine) (checked : config_check config ≡ Ok tt) (r : IsReached config files m) (past later : List Rec) (is : m.journal ≡ past ++ later) where
   past-may : EachFrom (May config) (blank_ledger config) past

@@ -1,7 +1,7 @@
 -- What the front end notes of a connection is what its dispatcher does.
 use Rattle.std.proofs.Common.{◌≡◌, ℕ, ◌+◌, ◌≤◌, ◌<◌, ◌==◌, Bool, true, false, cond, List, [], ◌∷◌, ◌++◌, Option, Some, None, Result, Ok, Err, refl, sym, ap, subst, ◌∙◌, arith, length}
 use Rattle.std.proofs.lemmas.Bool.{eq-eqb, eqb-false, eqb-true, ne_eqb}
-use Rattle.lard_law_view.specs.Prelude.{Ask, ControlBlock, Did, DispatchStanding, Dispatcher, Ending, First, FirstChoice, FrontDeed, FrontEnv, FrontPart, FrontRest, FrontRow, FrontTurn, IsDispatcherSound, IsPartSound, IsRowSound, Later, Millis, Rec, Said, SegFault, Service, Turn, Waiting, admitted, admitted_with, after_calls, after_first, ask_of, assigned_notes, assigns, batch_over, choice_at, dispatch_standing, first_answer, front_asked, front_fired, front_gets, front_hears, front_rest, front_rests, front_taken, front_timer, holds, home, is_full, is_row_at, last_words, later_answer, leaves_by, line_waits, line_without, nowhere, over_note, placed, room_of, serving_settled, spoken, tombstone, turn_here, waits_on}
+use Rattle.lard_law_view.specs.Prelude.{Ask, ControlBlock, Did, DispatchStanding, Dispatcher, Ending, First, FirstChoice, FrontDeed, FrontEnv, FrontPart, FrontRest, FrontRow, FrontTurn, IsDispatcherSound, IsPartSound, IsRowSound, Later, Millis, Rec, Said, SegFault, Service, Turn, Waiting, admitted, admitted_with, after_calls, after_first, ask_of, assigned_notes, assigns, batch_over, choice_at, dispatch_standing, first_answer, front_asked, front_fired, front_gets, front_hears, front_rest, front_rests, front_taken, front_timer, holds, home, is_full, last_words, later_answer, leaves_by, line_waits, line_without, nowhere, over_note, placed, room_of, serving_settled, settled_by, spoken, tombstone, turn_here, waits_on}
 use Rattle.lard_law_connections.proofs.PolicyAsides.{IsAside}
 use Rattle.lard_law_connections.proofs.PolicyIns.{AreIn}
 use Rattle.lard_law_connections.proofs.PolicyLeading.{Leads, admit-leads, aside-leads, behind-asides, later-leads, line-shared, wait-leads}
@@ -13,7 +13,8 @@ use Rattle.lard_dispatch.specs.declared.dispatch.First.TheVariants as first
 use Rattle.lard_dispatch.specs.Laws as call
 use Rattle.lard_dispatch.proofs.Soundness.{not-in}
 use Rattle.lard_rules.specs.Front.{Drops, Says, Does}
-use Rattle.lard_rules.proofs.FrontDeeds.{IsOf, away-stands}
+use Rattle.lard_rules.specs.FrontSound.{OpenNodes, open_nodes_of}
+use Rattle.lard_rules.proofs.FrontDeeds.{IsOf, row-at}
 use Rattle.lard_handoff_front.specs.declared.row.FrontConn.TheVariants as stage
 use Rattle.lard_history.proofs.Each.{Each, Each-append, Each-weaker}
 use Rattle.lard_history.proofs.Seeing.{by_number}
@@ -21,11 +22,12 @@ use Rattle.lard_journal.specs.declared.rec.Rec.TheVariants as rec
 use Rattle.lard_rules.specs.declared.places.Ending.TheVariants.{Here, Over}
 use Rattle.lard_rules.proofs.FrontCases.{KeptBySegment, IsInStage, of-stage, begun_row, begun_service, heard_reading, heard_service, segment-keeps, timer-keeps, taken-keeps, asked-keeps}
 
--- What is noted of connection c is what the dispatcher does, and who is in the line waits as it is told.
+-- What is noted of connection c is what the dispatcher does, and who is in the line waits as it is told. Nobody is passed over: a line stands only
+-- where there is no room, and none of that is taken then.
 pub record Tells (d : Dispatcher) (c : ℕ) (now : Millis) (ins : List ℕ) (p : FrontPart) (x : Did) : Type 0 where
   pub leads : Leads d.config now ins d.books x.turn.notes (after_calls d x.calls).books
   pub gave : Each IsAside x.turn.gave
-  pub ordered : IsOrdered d.books.line x.turn.notes
+  pub ordered : (line : List Waiting) → (0 < length line → admitted d.books.loads ≡ room_of d.config) → IsOrdered line x.turn.notes
   pub waits : Leaves d.books.line x.turn.notes (after_calls d x.calls).books.line
   pub lines : (t u : ℕ → Option (List ℕ)) → ((q : ℕ) → (q ≡ c → ⊥) → u q ≡ t q) → t c ≡ target_of p.rest → u c ≡ target_of x.part.rest
       → AreLined t d.books.line → AreLined u (after_calls d x.calls).books.line
@@ -59,7 +61,7 @@ module _ (d : Dispatcher) (ins : List ℕ) (in_ : AreIn ins d.books.loads.standi
   holds-tells c now p row rest given free asides = record {
     leads = aside-leads d.config now ins d.books in_ given.1.notes asides;
     gave = tt;
-    ordered = asides-ordered d.books.line given.1.notes asides;
+    ordered = λ line full. asides-ordered line given.1.notes asides;
     waits = asides-leave d.books.line given.1.notes asides;
     lines = λ t u others was is lined. lined-absent t u c others d.books.line free lined;
   }
@@ -69,7 +71,7 @@ module _ (d : Dispatcher) (ins : List ℕ) (in_ : AreIn ins d.books.loads.standi
   waits-tells env p row (Here b count, turn) asides = record {
     leads = aside-leads d.config env.now ins d.books in_ turn.notes asides;
     gave = tt;
-    ordered = asides-ordered d.books.line turn.notes asides;
+    ordered = λ line full. asides-ordered line turn.notes asides;
     waits = asides-leave d.books.line turn.notes asides;
     lines = λ t u others was is lined. lined-same t u (same-all env.serve.c t u (target_of p.rest) others was is) d.books.line lined;
   }
@@ -77,7 +79,7 @@ module _ (d : Dispatcher) (ins : List ℕ) (in_ : AreIn ins d.books.loads.standi
       let leads : Leads d.config env.now ins d.books turn.notes d.books = aside-leads d.config env.now ins d.books in_ turn.notes asides in record {
         leads = record { more = leads.more; then = leads.then; in_ = leads.in_; may = leads.may; paired = leads.paired; after = leads.after };
         gave = tt;
-        ordered = asides-ordered d.books.line turn.notes asides;
+        ordered = λ line full. asides-ordered line turn.notes asides;
         waits = left-leaves env.serve.c d.books.line turn.notes d.books.line (asides-leave d.books.line turn.notes asides);
         lines = λ t u others was is lined. lined-without t u env.serve.c others d.books.line lined;
       }
@@ -148,8 +150,8 @@ module _ (d : Dispatcher) (ins : List ℕ) (in_ : AreIn ins d.books.loads.standi
     left-lined t u others h = lined-without (between t) u env.serve.c (λ q n. others q n ∙ sym (between-other t q n)) (d.books.line ++ newcomer ∷ [])
         (last-lined t (between t) (between-other t) (ap (λ (b : Bool). cond b (Some path) (t env.serve.c)) (eq-eqb env.serve.c env.serve.c refl)) h)
 
-    waits-ordered : IsOrdered d.books.line (w.notes ++ rec.Waits env.serve.c ∷ [])
-    waits-ordered = none-ordered d.books.line (w.notes ++ rec.Waits env.serve.c ∷ [])
+    waits-ordered : (line : List Waiting) → IsOrdered line (w.notes ++ rec.Waits env.serve.c ∷ [])
+    waits-ordered line = none-ordered line (w.notes ++ rec.Waits env.serve.c ∷ [])
         (Each-append IsNeither w.notes (rec.Waits env.serve.c ∷ []) (Each-weaker IsAside IsNeither aside-neither w.notes asides) (tt, tt))
 
     waits-last : Leaves d.books.line (w.notes ++ rec.Waits env.serve.c ∷ []) (d.books.line ++ newcomer ∷ [])
@@ -162,17 +164,16 @@ module _ (d : Dispatcher) (ins : List ℕ) (in_ : AreIn ins d.books.loads.standi
       go (v ∷ vs) full = let no : admitted d.books.loads ≡ room_of d.config = full (omega arith) in absurd (omega (arith, no, less))
 
     -- nobody waits where there is room
-    goes-ordered : admitted d.books.loads < room_of d.config → (notes : List Rec) → IsOrdered d.books.line notes
-    goes-ordered less notes = go d.books.line sound.full where
-      go : (line : List Waiting) → (0 < length line → admitted d.books.loads ≡ room_of d.config) → IsOrdered line notes
-      go [] full = alone-ordered notes
-      go (v ∷ vs) full = let no : admitted d.books.loads ≡ room_of d.config = full (omega arith) in absurd (omega (arith, no, less))
+    goes-ordered : admitted d.books.loads < room_of d.config → (notes : List Rec) (line : List Waiting)
+        → (0 < length line → admitted d.books.loads ≡ room_of d.config) → IsOrdered line notes
+    goes-ordered less notes [] full = alone-ordered notes
+    goes-ordered less notes (v ∷ vs) full = let no : admitted d.books.loads ≡ room_of d.config = full (omega arith) in absurd (omega (arith, no, less))
 
     wait : (e : Ending) → Answers first.Waits (after_first d env.serve.c path env.now) → Tells d env.serve.c env.now ins p (did e)
     wait (Here b count) h = record {
       leads = subst Stands (sym h.0) (stands h.1);
       gave = tt;
-      ordered = waits-ordered;
+      ordered = λ line full. waits-ordered line;
       waits = subst (λ (e : Dispatcher). Leaves d.books.line (w.notes ++ rec.Waits env.serve.c ∷ []) e.books.line) (sym h.0) waits-last;
       lines = λ t u others was is l. subst (λ (e : Dispatcher). AreLined u e.books.line) (sym h.0) (last-lined t u others is l);
     }
@@ -180,7 +181,7 @@ module _ (d : Dispatcher) (ins : List ℕ) (in_ : AreIn ins d.books.loads.standi
         let leads : Stands (after_first d env.serve.c path env.now) = subst Stands (sym h.0) (stands h.1) in record {
           leads = record { more = leads.more; then = leads.then; in_ = leads.in_; may = leads.may; paired = leads.paired; after = leads.after };
           gave = tt;
-          ordered = waits-ordered;
+          ordered = λ line full. waits-ordered line;
           waits = subst (λ (e : Dispatcher). Leaves d.books.line (w.notes ++ rec.Waits env.serve.c ∷ []) (line_without e.books.line env.serve.c)) (sym h.0)
               (left-leaves env.serve.c d.books.line (w.notes ++ rec.Waits env.serve.c ∷ []) (d.books.line ++ newcomer ∷ []) waits-last);
           lines = λ t u others was is l. subst (λ (e : Dispatcher). AreLined u (line_without e.books.line env.serve.c)) (sym h.0) (left-lined t u others l);
@@ -210,26 +211,38 @@ module _ (d : Dispatcher) (ins : List ℕ) (in_ : AreIn ins d.books.loads.standi
     words-tell None = record { notes = refl; gave = refl }
     words-tell (Some said) = record { notes = refl; gave = refl }
 
-    module _ (h : IsPartSound p standing) where
+    by-place : standing ≡ nowhere → (row : FrontRow) (rest : FrontRest) (w : Service) (path : List ℕ) → Each IsAside w.notes
+        → (f : First) → env.first path ≡ f → TellsOf (Does (placed env p row rest w path f))
+    by-place free row rest w path asides f is = placed-tells sound env free p row rest w path asides f
+        (subst (λ f. Answers sound env free p row rest w path asides f (after_first d env.serve.c path env.now)) (sym (of.first path) ∙ is)
+          (answers sound env free p row rest w path asides))
+
+    -- one that stands nowhere is held with what was read of it, or placed
+    pub settled-tells : standing ≡ nowhere → (row : FrontRow) (rest : FrontRest) (w : Service) → Each IsAside w.notes
+        → (o : Option (List ℕ)) → TellsOf (settled_by env p row rest w o)
+    settled-tells free row rest w asides None =
+        holds-tells env.serve.c env.now p row rest (serving_settled env.serve w) (ap (λ (x : DispatchStanding). x.waits) free)
+        (subst (Each IsAside) (sym (settled-notes env.serve w)) asides)
+    settled-tells free row rest w asides (Some path) = by-place free row rest w path asides (env.first path) refl
+
+    abbrev nodes : OpenNodes
+    nodes = open_nodes_of d
+
+    module _ (h : IsPartSound nodes p standing) where
       -- one that is held stands nowhere
       free : (row : FrontRow) (b : ControlBlock) → IsInStage p row (stage.Held b) → standing ≡ nowhere
-      free row b at = (of-stage (IsRowSound p.rest p.kept standing) p row (stage.Held b) at h).2
-
-      by-place : (row : FrontRow) (b : ControlBlock) (w : Service) (path : List ℕ) → IsInStage p row (stage.Held b) → Each IsAside w.notes → (f : First) → env.first path ≡ f → TellsOf (Does (placed env p row (front_rest p.rest) w path f))
-      by-place row b w path at asides f is = placed-tells sound env (free row b at) p row (front_rest p.rest) w path asides f
-          (subst (λ f. Answers sound env (free row b at) p row (front_rest p.rest) w path asides f (after_first d env.serve.c path env.now)) (sym (of.first path) ∙ is) (answers sound env (free row b at) p row (front_rest p.rest) w path asides))
+      free row b at = (of-stage (IsRowSound nodes p.rest p.kept standing) p row (stage.Held b) at h).2
 
       by-segment : (bytes : List ℕ) (s : Said) → KeptBySegment env p bytes s (λ w o. Each IsAside w.notes) TellsOf
       by-segment bytes s = record {
         drops = tt;
         begins = λ none plain.
-            let at : IsRowSound p.rest p.kept standing None = subst (IsRowSound p.rest p.kept standing) none h in
+            let at : IsRowSound nodes p.rest p.kept standing None = subst (IsRowSound nodes p.rest p.kept standing) none h in
             holds-tells env.serve.c env.now p begun_row (front_rest None) (spoken env.serve (begun_service env s) []) (ap (λ (x : DispatchStanding). x.waits) at.1) (tt, tt);
         reads = λ row b at. reads-notes env.serve (heard_reading p b s) tt;
-        holds = λ row b w at asides.
-            holds-tells env.serve.c env.now p row (front_rest p.rest) (serving_settled env.serve w) (ap (λ (x : DispatchStanding). x.waits) (free row b at)) (subst (Each IsAside) (sym (settled-notes env.serve w)) asides);
-        hands = λ row b w path choice at asides is. by-place row b w path at asides (first.Go choice) is;
-        waits = λ row b w path at asides is. by-place row b w path at asides first.Waits is;
+        holds = λ row b w at asides. settled-tells (free row b at) row (front_rest p.rest) w asides None;
+        hands = λ row b w path choice at asides is. by-place (free row b at) row (front_rest p.rest) w path asides (first.Go choice) is;
+        waits = λ row b w path at asides is. by-place (free row b at) row (front_rest p.rest) w path asides first.Waits is;
         stays = λ row b at. waits-tells env p row (spoken env.serve (heard_service p b s) []) tt;
         forwards = λ row n e at. record { notes = refl; gave = refl };
         words = λ row last at. words-tell (last_words last.reason last s);
@@ -238,13 +251,13 @@ module _ (d : Dispatcher) (ins : List ℕ) (in_ : AreIn ins d.books.loads.standi
       hears-tells : (bytes : List ℕ) (s : Said) → TellsOf (front_hears env p bytes s p.row)
       hears-tells bytes s = segment-keeps env p bytes s (λ w o. Each IsAside w.notes) TellsOf (by-segment bytes s)
 
-    pub gets-tells : (bytes : List ℕ) (r : Result Said SegFault) → IsPartSound p standing → TellsOf (front_gets env p bytes r)
+    pub gets-tells : (bytes : List ℕ) (r : Result Said SegFault) → IsPartSound nodes p standing → TellsOf (front_gets env p bytes r)
     gets-tells bytes (Err fault) h = tt
     gets-tells bytes (Ok s) h = hears-tells h bytes s
 
     -- ---- timers
 
-    pub timer-tells : IsPartSound p standing → TellsOf (front_timer env p)
+    pub timer-tells : IsPartSound nodes p standing → TellsOf (front_timer env p)
     timer-tells h = timer-keeps env p TellsOf (record {
       drops = tt;
       holds = λ row b at. holds-tells env.serve.c env.now p row (front_rest p.rest) (front_fired env (front_rest p.rest) b) (ap (λ (x : DispatchStanding). x.waits) (free h row b at)) tt;
@@ -261,10 +274,6 @@ module _ (d : Dispatcher) (ins : List ℕ) (in_ : AreIn ins d.books.loads.standi
       abbrev After : Dispatcher
       After = after_calls d (call.Later ask env.now ∷ [])
 
-      at-home : (o : Option FrontRow) → is_row_at from epoch o ≡ true → IsRowSound p.rest p.kept (dispatch_standing d env.serve.c) o → dispatch_standing d env.serve.c ≡ record { home = Some from; waits = false }
-      at-home None there h = let no : false ≡ true = there in absurd cc
-      at-home (Some row) there h = away-stands from epoch row.stage p.rest p.kept (dispatch_standing d env.serve.c) row.epoch.0 there h
-
       asked-lines : (t u : ℕ → Option (List ℕ)) → ((q : ℕ) → u q ≡ t q) → AreLined t d.books.line → AreLined u After.books.line
       asked-lines t u same lined = subst (AreLined u) (sym (line-shared d.config env.now ask paths (batch_over d.books ask))) (lined-same t u same d.books.line lined)
 
@@ -274,7 +283,7 @@ module _ (d : Dispatcher) (ins : List ℕ) (in_ : AreIn ins d.books.loads.standi
         leads = subst (λ (y : Later). Leads d.config env.now ins d.books (assigns env p rest from epoch ask y).turn.notes After.books) (sym is)
             (later-leads d.config env.now ask ins rest.assigned d.books some within most in_ (ap (λ (x : DispatchStanding). x.home) home));
         gave = tt;
-        ordered = none-ordered d.books.line (assigns env p rest from epoch ask l).turn.notes
+        ordered = λ line full. none-ordered line (assigns env p rest from epoch ask l).turn.notes
             (Each-append IsNeither (over_note env.serve.c l.over) (assigned_notes env.serve.c ask rest.assigned paths l.choices) (over-neither env.serve.c l.over) (assigned-neither env.serve.c ask rest.assigned paths l.choices));
         waits = subst (λ (line : List Waiting). Leaves d.books.line (assigns env p rest from epoch ask l).turn.notes line) (sym (line-shared d.config env.now ask paths (batch_over d.books ask)))
             (idle-leaves d.books.line (assigns env p rest from epoch ask l).turn.notes
@@ -282,8 +291,9 @@ module _ (d : Dispatcher) (ins : List ℕ) (in_ : AreIn ins d.books.loads.standi
         lines = λ t u others was now_is lined. asked-lines t u (same-all env.serve.c t u rest.target others (was ∙ ap target_of found) now_is) lined;
       }
 
-      pub asked-tells : IsPartSound p (dispatch_standing d env.serve.c) → TellsOf (front_asked env p from epoch ask)
-      asked-tells h = asked-keeps p TellsOf tt env from epoch ask (λ rest found there same more. record { notes = refl; gave = refl }) (λ rest found there next. new-tells rest found (at-home p.row there h) (env.later ask) (of.later ask))
+      pub asked-tells : IsPartSound nodes p standing → TellsOf (front_asked env p from epoch ask)
+      asked-tells h = asked-keeps p TellsOf tt env from epoch ask (λ rest found there same more. record { notes = refl; gave = refl })
+          (λ rest found there next. new-tells rest found (row-at nodes from epoch p.row p.rest p.kept standing there h).2.stands (env.later ask) (of.later ask))
 
   -- ---- a Taken
 
@@ -291,7 +301,7 @@ module _ (d : Dispatcher) (ins : List ℕ) (in_ : AreIn ins d.books.loads.standi
   taken-tells c now p epoch = taken-keeps p (λ deed. DeedTells d c now ins p deed) tt epoch (λ row n e at same. record {
     leads = aside-leads d.config now ins d.books in_ [] tt;
     gave = tt;
-    ordered = asides-ordered d.books.line [] tt;
+    ordered = λ line full. asides-ordered line [] tt;
     waits = asides-leave d.books.line [] tt;
     lines = λ t u others was is lined. lined-same t u (same-all c t u (target_of p.rest) others was is) d.books.line lined;
   })

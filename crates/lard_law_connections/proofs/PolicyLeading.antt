@@ -75,6 +75,19 @@ module _ (cfg : Config) (now : Millis) (ins : List ℕ) (b : Books) (in_ : AreIn
       → Leads cfg now ins b (rec.Closed n ∷ []) (record b { loads = tally_closed b.loads n; sets = sets_closed b.sets n })
   close-leads n opened other = record { more = ins; then = refl; in_ = in_; may = ((tt, (opened, other)), tt); paired = tt; after = λ before but_closed. ((tt, tt), tt) }
 
+  -- it is released where it comes back from a node that was open: that is closed before
+  pub return-leads : (n c : ℕ) (epoch : Epoch) → is_open b.loads n ≡ true → has_other_open b.loads n ≡ true → is_some (map.get b.loads.standings c) ≡ true
+      → Leads cfg now ins b (rec.Took Front c epoch ∷ rec.Closed n ∷ rec.Released c ∷ [])
+          (released_from (record b { loads = tally_closed b.loads n; sets = sets_closed b.sets n }) c)
+  return-leads n c epoch opened other there = record {
+    more = filter (λ d. not (nat_eq c d)) ins;
+    then = refl;
+    in_ = in-less ins b.loads.standings c in_ there;
+    may = ((tt, tt), ((tt, (opened, other)), ((in-there ins b.loads.standings c in_ there, has-home (map.get b.loads.standings c) there), tt)));
+    paired = tt;
+    after = λ before but_closed. ((tt, tt), ((tt, tt), ((tt, refl), tt)));
+  }
+
 -- one behind another
 pub both-lead : (cfg : Config) (now : Millis) (ins : List ℕ) (b d e : Books) (xs ys : List Rec) → (one : Leads cfg now ins b xs d) → Leads cfg now one.more d ys e → Leads cfg now ins b (xs ++ ys) e
 both-lead cfg now ins b d e xs ys one two = record {

@@ -1,5 +1,5 @@
 -- Who is admitted in a step is the first of the line, and is where another is released.
-use Rattle.std.proofs.Common.{ℕ, ◌+◌, Bool, true, false, List, [], ◌∷◌, ◌++◌}
+use Rattle.std.proofs.Common.{ℕ, ◌+◌, Bool, true, false, List, [], ◌∷◌, ◌++◌, Option, inl, refl}
 use Rattle.lard_law_connections.proofs.PolicyAsides.{IsAside}
 use Rattle.lard_law_connections.specs.PolicyLaws.{AdmitsFirst, PassesOn}
 use Rattle.lard_law_view.specs.Prelude.{Ask, Has, LaterChoice, Rec, Waiting, assigned_notes, over_note}
@@ -56,18 +56,43 @@ passes-wider [] rs ss wider r h = tt
 passes-wider (w ∷ ws) rs ss wider (rec.Released c) h = wider (rec.Admitted w.c) h
 passes-wider (w ∷ ws) rs ss wider _ h = tt
 
+-- one behind another
+pub both-ordered : (line : List Waiting) (xs ys : List Rec) → IsOrdered line xs → IsOrdered line ys → IsOrdered line (xs ++ ys)
+both-ordered line xs ys one two = record {
+  first = Each-append (AdmitsFirst line) xs ys one.first two.first;
+  passes =
+      let all : List Rec = xs ++ ys in
+      Each-append (PassesOn line all) xs ys
+      (Each-weaker (PassesOn line xs) (PassesOn line all) (passes-wider line xs all (λ r h. has-before r xs ys h)) xs one.passes)
+      (Each-weaker (PassesOn line ys) (PassesOn line all) (passes-wider line ys all (λ r h. has-behind r xs ys h)) ys two.passes);
+}
+
 -- between other records
 pub between-ordered : (line : List Waiting) (xs rs ys : List Rec) → Each IsNeither xs → IsOrdered line rs → Each IsNeither ys → IsOrdered line (xs ++ rs ++ ys)
-between-ordered line xs rs ys before is behind = record {
-  first = Each-append (AdmitsFirst line) (xs ++ rs) ys (Each-append (AdmitsFirst line) xs rs (Each-weaker IsNeither (AdmitsFirst line) (neither-first line) xs before) is.first)
-      (Each-weaker IsNeither (AdmitsFirst line) (neither-first line) ys behind);
-  passes =
-      let all : List Rec = xs ++ rs ++ ys in
-      Each-append (PassesOn line all) (xs ++ rs) ys
-      (Each-append (PassesOn line all) xs rs (Each-weaker IsNeither (PassesOn line all) (neither-passes line all) xs before)
-      (Each-weaker (PassesOn line rs) (PassesOn line all) (passes-wider line rs all (λ r h. has-before r (xs ++ rs) ys (has-behind r xs rs h))) rs is.passes))
-      (Each-weaker IsNeither (PassesOn line all) (neither-passes line all) ys behind);
-}
+between-ordered line xs rs ys before is behind =
+    both-ordered line (xs ++ rs) ys (both-ordered line xs rs (none-ordered line xs before) is) (none-ordered line ys behind)
+
+-- where one is released, the head is admitted behind it
+pub passed-ordered : (w : Waiting) (ws : List Waiting) (xs : List Rec) (c r : ℕ) (path : List ℕ) (n : ℕ) (add remove : Option ℕ) → Each IsNeither xs
+    → IsOrdered (w ∷ ws) ((xs ++ rec.Released c ∷ []) ++ rec.Admitted w.c ∷ rec.AssignedFirst w.c r path n add remove ∷ [])
+passed-ordered w ws xs c r path n add remove before = record {
+  first = Each-append (AdmitsFirst line) (xs ++ released) heads
+      (Each-append (AdmitsFirst line) xs released (Each-weaker IsNeither (AdmitsFirst line) (neither-first line) xs before) (tt, tt)) (refl, (tt, tt));
+  passes = Each-append (PassesOn line all) (xs ++ released) heads
+      (Each-append (PassesOn line all) xs released (Each-weaker IsNeither (PassesOn line all) (neither-passes line all) xs before)
+        (has-behind (rec.Admitted w.c) (xs ++ released) heads (inl refl), tt)) (tt, (tt, tt));
+} where
+  line : List Waiting
+  line = w ∷ ws
+
+  released : List Rec
+  released = rec.Released c ∷ []
+
+  heads : List Rec
+  heads = rec.Admitted w.c ∷ rec.AssignedFirst w.c r path n add remove ∷ []
+
+  all : List Rec
+  all = (xs ++ released) ++ heads
 
 -- ---- an Ask
 

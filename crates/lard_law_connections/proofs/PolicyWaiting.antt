@@ -127,7 +127,12 @@ left-leaves c line notes after l = λ ys h. left-within c after (fold waiting_st
 pub waits-leaves : (line : List Waiting) (notes : List Rec) (w : Waiting) → Each IsIdle notes → Leaves line (notes ++ rec.Waits w.c ∷ []) (line ++ w ∷ [])
 waits-leaves line notes w e = λ ys h. subst (IsSublist (who (line ++ w ∷ []))) (sym (behind-idle notes (rec.Waits w.c ∷ []) ys e)) (come-within line w ys h)
 
+-- one behind another
+pub both-leave : (line mid after : List Waiting) (xs ys : List Rec) → Leaves line xs mid → Leaves mid ys after → Leaves line (xs ++ ys) after
+both-leave line mid after xs ys one two =
+    λ zs h. subst (IsSublist (who after)) (sym (fold-append waiting_step zs xs ys)) (two (fold waiting_step zs xs) (one zs h))
+
 -- between such notes
 pub between-leaves : (line after : List Waiting) (xs rs ys : List Rec) → Each IsIdle xs → Leaves line rs after → Each IsIdle ys → Leaves line (xs ++ rs ++ ys) after
 between-leaves line after xs rs ys before l behind =
-    λ zs h. subst (IsSublist (who after)) (sym (fold-append waiting_step zs (xs ++ rs) ys ∙ idle-same ys (fold waiting_step zs (xs ++ rs)) behind ∙ behind-idle xs rs zs before)) (l zs h)
+    both-leave line after after (xs ++ rs) ys (both-leave line line after xs rs (idle-leaves line xs before) l) (idle-leaves after ys behind)

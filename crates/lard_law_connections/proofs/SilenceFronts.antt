@@ -1,14 +1,15 @@
 -- What the front end does with an endpoint keeps what each of its operations keeps.
 use Rattle.std.proofs.Common.{false, ◌≡◌, ℕ, true, List, [], ◌∷◌, Option, Some, None, Ok, IfSome, refl}
-use Rattle.lard_law_view.specs.Prelude.{Call, ControlBlock, Ending, Final, FrontConn, FrontDeed, FrontEnv, FrontGets, FrontHears, FrontPart, FrontRest, FrontRow, Place, Said, Service, Turn, front_fired, front_rest, front_rule, is_plain_syn, is_row_at, last_words, leaves_by, listening, serving_settled, spoken, stage_after, tombstone}
+use Rattle.lard_law_view.specs.Prelude.{Call, ControlBlock, Ending, EndpointParts, Final, FrontConn, FrontDeed, FrontEnv, FrontGets, FrontHears, FrontPart, FrontRest, FrontRow, Place, ReturnedBy, Said, Service, Turn, adopted, back_rest, front_fired, front_rest, front_rule, given_sent, is_plain_syn, is_row_at, last_words, leaves_by, listening, placed, returned_row, serving_settled, spoken, stage_after, tombstone}
 use Rattle.lard_law_connections.specs.SilencePlaces.{FrontHas, FrontStageHas, KnownHas}
 use Rattle.lard_law_connections.proofs.SilencePlaces.{front-known}
 use Rattle.lard_law_connections.proofs.SilenceTurns.{AreTold, EndHas, IsKept, TurnHas, fired-has, nobody, reads-keep, settled-has, spoken-has}
+use Rattle.lard_dispatch.specs.declared.dispatch.First.TheVariants as first
 use Rattle.lard_dispatch.specs.Laws as call
 use Rattle.lard_rules.specs.Front.{Drops, Says, Does}
 use Rattle.lard_handoff_front.specs.declared.row.FrontConn.TheVariants as stage
 use Rattle.lard_rules.specs.declared.places.Ending.TheVariants as ending
-use Rattle.lard_rules.proofs.FrontCases.{IsAsGiven, KeptByFront, KeptBySegment, KeptByTimer, front-keeps, of-stage, begun_row, begun_service, heard_reading, heard_service, rests_in, waiting_service}
+use Rattle.lard_rules.proofs.FrontCases.{IsAsGiven, IsBack, KeptByFront, KeptByReturn, KeptBySegment, KeptByTimer, front-keeps, of-stage, back_reading, begun_row, begun_service, heard_reading, heard_service, rests_in, waiting_service}
 
 -- what it keeps behind a deed, and what goes out: by the endpoint that stays, and else by some endpoint or by any
 abbrev pub DeedHas : (ControlBlock → Type 0) → (ControlBlock → Said → Type 0) → ℕ → FrontDeed → Type 0
@@ -36,6 +37,13 @@ module _ (env : FrontEnv) (P R : ControlBlock → Type 0) (Word : Said → Type 
       → Goes (rests_in p row rest stays given calls)
   rests-has row rest stays to given calls t = (stage-has stays to given.1.segments given.0 t.ends, t.sent)
 
+  -- one that is to be placed waits
+  waits-has : (row : FrontRow) (rest : FrontRest) (w : Service) (path : List ℕ) → P w.block → Goes (Does (placed env p row rest w path first.Waits))
+  waits-has row rest w path r =
+      let given : Ending × Turn = spoken env.serve (waiting_service env w) [] in
+      rests-has row (record rest { target = Some path }) stage.Waiting (λ Q b q. q) given (call.First env.serve.c path env.now ∷ leaves_by env.serve.c given.0)
+      (spoken-has env.serve P R Word Reply k (waiting_service env w) [] r tt)
+
   -- ---- segments: a new connection is listened to, and one that ended has last words
 
   module _ (s : Said) (word : Word s) (listens : p.row ≡ None → is_plain_syn s ≡ true → P (listening s env.iss))
@@ -51,9 +59,7 @@ module _ (env : FrontEnv) (P R : ControlBlock → Type 0) (Word : Said → Type 
       reads = λ row b at. reads-keep env.serve (λ (w : Service). P w.block) k.serves (heard_reading p b s) (k.hears b s (of-stage (FrontHas R) p row (stage.Held b) at h) word);
       holds = λ row b w at r. rests-has row (front_rest p.rest) stage.Held (λ Q b q. q) (serving_settled env.serve w) [] (settled-has env.serve P R Word Reply k w r);
       hands = λ row b w path choice at r is. (tt, (w.block, tt));
-      waits = λ row b w path at r is.
-          let given : Ending × Turn = spoken env.serve (waiting_service env w) [] in
-          rests-has row (record (front_rest p.rest) { target = Some path }) stage.Waiting (λ Q b q. q) given (call.First env.serve.c path env.now ∷ leaves_by env.serve.c given.0) (spoken-has env.serve P R Word Reply k (waiting_service env w) [] r tt);
+      waits = λ row b w path at r is. waits-has row (front_rest p.rest) w path r;
       stays = λ row b at.
           let given : Ending × Turn = spoken env.serve (heard_service p b s) [] in
           rests-has row (front_rest p.rest) stage.Waiting (λ Q b q. q) given (leaves_by env.serve.c given.0)
@@ -75,6 +81,17 @@ module _ (env : FrontEnv) (P R : ControlBlock → Type 0) (Word : Said → Type 
     resends = λ row n e at d. tt;
   }
 
+  -- ---- a connection that comes back
+
+  by-return : (said : List (Place × List ℕ)) (row : FrontRow) (parts : EndpointParts) → P (adopted parts) → KeptByReturn env p said row parts (λ w o. P w.block) Goes
+  by-return said row parts adopts = record {
+    reads = reads-keep env.serve (λ (w : Service). P w.block) k.serves (back_reading env row parts) adopts;
+    holds = λ w r. rests-has (returned_row parts row) (back_rest parts) stage.Held (λ Q b q. q) (serving_settled env.serve w) []
+        (settled-has env.serve P R Word Reply k w r);
+    hands = λ w path choice r is. (tt, (w.block, tt));
+    waits = λ w path r is. waits-has (returned_row parts row) (back_rest parts) w path r;
+  }
+
 module _ (R : ControlBlock → Type 0) where
   still-has : (n epoch : ℕ) (q : Option FrontRow) → is_row_at n epoch q ≡ true → FrontHas R q → KnownHas (λ (b : ControlBlock). R b × Unit {0}) q
   still-has n epoch None there r = let no : false ≡ true = there in absurd cc
@@ -84,11 +101,12 @@ module _ (R : ControlBlock → Type 0) where
 
 module _ (env : FrontEnv) (P R : ControlBlock → Type 0) (Word : Said → Type 0) (Reply : ControlBlock → Said → Type 0)
     (k : IsKept env.serve P R Word Reply) (p : FrontPart) (h : FrontHas R p.row) where
-  -- of a segment its word is known, what is listened to, and the last words of one that ended
+  -- of a segment its word is known, what is listened to, and the last words of one that ended; and of one that comes back its endpoint
   abbrev pub Given : FrontGets → Type 0
   Given (FrontHears bytes (Ok s)) = Word s × (p.row ≡ None → is_plain_syn s ≡ true → P (listening s env.iss))
       × ((row : FrontRow) (last : Final) → p.row ≡ Some row → row.stage ≡ stage.Closed last
       → IfSome (last_words last.reason last s) (λ (t : Said). (d : ControlBlock) → Reply d t))
+  Given (ReturnedBy n epoch given) = (row : FrontRow) (parts : EndpointParts) → IsBack p n epoch given row parts → P (adopted parts)
   Given _ = Unit {0}
 
   rules_have : KeptByFront env p Given (λ w o. P w.block) (DeedHas R Reply env.serve.c)
@@ -101,6 +119,8 @@ module _ (env : FrontEnv) (P R : ControlBlock → Type 0) (Word : Said → Type 
     assigns_next = λ n epoch ask m rest found there next. (still-has R n epoch p.row there h, (nobody, tt));
     ends_again = λ n epoch last m row found away again d. tt;
     ends = λ n epoch last m row found away. (tt, (nobody, tt));
+    gives_again = λ n epoch parts m row found past d. tt;
+    returns = λ n epoch given m row parts back. by-return env P R Word Reply k p h (given_sent env.serve.c n epoch given) row parts (m row parts back);
     admits = λ choice made met row b path at target. (tt, (nobody, tt));
   }
 

@@ -1,7 +1,8 @@
 -- Each rule leaves nothing to be said, so it is in every run.
 use Rattle.std.proofs.Common.{◌≡◌, ◌≤◌, ◌^◌, ℕ, List, Option, Some, Ok, None, IfSome, sym, subst}
-use Rattle.lard_law_view.specs.Prelude.{ClientBlock, ClientRules, Conn, ControlBlock, EndpointParts, Forwarded, FrontGets, FrontHears, FrontRules, IsFrontEnv, IsLaw, IsNodeEnv, IsValidParts, MayRestOn, Move, NodeEnv, NodeGets, NodeRules, Offered, Rules, Said, Seen, Setting, SpellsMessage, Station, front_does, front_rule, grown, last_words, node_does, node_rule, setting, with_leaving, with_station}
-use Rattle.lard_law_connections.proofs.PolicyMessages.{IsTold, message-told}
+use Rattle.lard_law_view.specs.Prelude.{ClientBlock, ClientRules, Conn, ControlBlock, EndpointParts, Forwarded, FrontGets, FrontHears, FrontRules, IsFrontEnv, IsLaw, IsNodeEnv, IsValidParts, MayRestOn, Move, NodeEnv, NodeGets, NodeRules, Offered, ReturnedBy, Rules, Said, Seen, Setting, SpellsMessage, Station, front_does, front_rule, grown, last_words, node_does, node_rule, setting, with_leaving, with_station}
+use Rattle.lard_rules.proofs.MessageTold.{IsTold, message-told}
+use Rattle.lard_law_connections.proofs.ReturnedParts.{back-valid}
 use Rattle.lard_law_connections.specs.SilenceLaws.{ConnectionsHaveSpoken}
 use Rattle.lard_law_connections.specs.SilencePlaces.{FrontHas, NodeHas}
 use Rattle.lard_law_connections.specs.Silence.{AllHaveSpoken, ClientHasSpoken, HasSpoken, PartHasSpoken, StationHasSpoken}
@@ -13,7 +14,7 @@ use Rattle.lard_law_connections.proofs.SilencePlaces.{known-front, node-weaker}
 use Rattle.lard_law_connections.proofs.SilenceTurns.{IsKept}
 use Rattle.lard_law_view.proofs.Carried.{carried}
 use Rattle.lard_law_view.proofs.EachNode.{NodeComes, each-node}
-use Rattle.lard_law_view.proofs.EachFront.{admission, each-front}
+use Rattle.lard_law_view.proofs.EachFront.{FrontComes, admission, each-front}
 use Rattle.lard_law_view.proofs.EachClient.{each-client}
 use Rattle.lard_law_view.proofs.Parts.{put-each}
 use Rattle.lard_rules.specs.Front as front
@@ -58,19 +59,20 @@ module _ (k : Setting) (small : k.stream ≤ 2 ^ 30) where
   front-kept : (x : Conn) (env : front.FrontEnv) → IsFrontEnv k x.c env → IsKept env.serve IsTurning HasSpoken Anything AnyReply
   front-kept x env is = endpoint-law env.serve (subst (λ (n : ℕ). n ≤ 2 ^ 30) (sym is.stream) small)
 
-  front-given : (x : Conn) (env : front.FrontEnv) (is : IsFrontEnv k x.c env) (h : FrontHas HasSpoken x.part.front.row) (g : FrontGets)
-      → fronts.Given env IsTurning HasSpoken Anything AnyReply (front-kept x env is) x.part.front h g
-  front-given x env is h (FrontHears bytes (Ok s)) = (
+  front-given : (x : Conn) (env : front.FrontEnv) (is : IsFrontEnv k x.c env) (h : FrontHas HasSpoken x.part.front.row) (heads : List Seen) (g : FrontGets)
+      → FrontComes x env heads g → fronts.Given env IsTurning HasSpoken Anything AnyReply (front-kept x env is) x.part.front h g
+  front-given x env is h heads (FrontHears bytes (Ok s)) comes = (
     tt,
     (λ none plain. listening-turns s env.iss),
     (λ row last found at. any-words (last_words last.reason last s)),
   )
-  front-given x env is h _ = tt
+  front-given x env is h heads (ReturnedBy n epoch given) comes = λ row parts back. adopted-turns parts (back-valid x n epoch given heads comes parts back.parts_are)
+  front-given x env is h heads _ comes = tt
 
   front-rules : FrontRules k Speaks
   front-rules = each-front k Speaks (λ x env heads g is comes may h. front-move x heads env.serve.c (front_rule env x.part.front g)
       (fronts.rule-has env IsTurning HasSpoken Anything AnyReply (front-kept x env is) x.part.front h.front g
-      (admission x env heads g comes) (front-given x env is h.front g)) h)
+      (admission x env heads g comes) (front-given x env is h.front heads g comes)) h)
 
   -- ---- the nodes
 

@@ -1,7 +1,7 @@
 -- The front end reads until no request is left, or the next one is to be placed.
 use Rattle.std.proofs.Common.{◌≡◌, ◌⊎◌, ◌+◌, ◌<◌, ℕ, zero, suc, Bool, true, false, List, [], length, Option, Some, None, inl, inr, ⊎_elim, refl, sym, ◌∙◌, arith}
 use Rattle.std.proofs.lemmas.Bool.{both_ways, cond_both}
-use Rattle.lard_law_view.specs.Prelude.{Conn, ControlBlock, Done, Ending, FilesAt, Found, FrontConn, FrontDeed, FrontEnv, FrontGets, FrontPart, FrontRow, HasStopped, More, Place, Reading, Said, Seen, ServeEnv, Service, Step, Verdict, after_timer, answered, block_at, cut_of, front_does, front_fired, front_reads, front_rest, front_rule, good_path, grown, may_freeze, may_read, on_segment, reading_left, reading_turn, reads_block, reads_found, runs_on, serving_consumed, serving_settled, speaks, spoken, stage_after, targeted}
+use Rattle.lard_law_view.specs.Prelude.{Conn, ControlBlock, Done, Ending, EndpointParts, FilesAt, Found, FrontConn, FrontDeed, FrontEnv, FrontGets, FrontPart, FrontRow, HasStopped, More, Place, Reading, Said, Seen, ServeEnv, Service, Step, Verdict, after_timer, answered, block_at, cut_of, front_does, front_fired, front_reads, front_rest, front_rule, given_sent, good_path, grown, may_freeze, may_read, on_segment, reading_left, reading_turn, reads_block, reads_found, runs_on, serving_consumed, serving_settled, speaks, spoken, stage_after, targeted}
 use Rattle.lard_base.specs.declared.place.Via.TheVariants.{Own}
 use Rattle.lard_block.specs.declared.block.Found.TheVariants as found
 use Rattle.lard_law_connections.specs.Stops.{FrontStageStops, FrontStops, HeldStops, IsHeldBack, ReadingStops}
@@ -13,7 +13,7 @@ use Rattle.lard_law_view.proofs.Stopping.{stopped-arrived, stopped-begun, stoppe
 use Rattle.lard_request.specs.declared.verdict.Code.TheVariants as code
 use Rattle.lard_request.specs.declared.verdict.Verdict.TheVariants.{Fault}
 use Rattle.lard_rules.specs.declared.places.Ending.TheVariants as ending
-use Rattle.lard_rules.proofs.FrontCases.{KeptBySegment, IsInStage, of-stage, begun_service, fired_before, fired_service, heard_service, waiting_service, IsAsGiven, KeptByFront, front-keeps}
+use Rattle.lard_rules.proofs.FrontCases.{KeptByReturn, KeptBySegment, IsInStage, of-stage, back_service, begun_service, fired_before, fired_service, heard_service, waiting_service, IsAsGiven, KeptByFront, front-keeps}
 use Rattle.lard_rules.proofs.Endings.{settled-keeps}
 
 -- ---- the loop
@@ -142,6 +142,15 @@ module _ (env : FrontEnv) (p : FrontPart) (h : FrontStops env.serve.files p.row)
       spoken-stops env.serve (fired_service p b) (fired_before env b) (λ calm.
       ⊎_elim (λ (t : HasStopped b). inl (same-stopped b (after_timer b) same t)) (λ (t : IsHeldBack own b). inr (same-held own b (after_timer b) same t)) held.1)
 
+  -- one that comes back is not closed
+  by-return : (said : List (Place × List ℕ)) (row : FrontRow) (parts : EndpointParts) → KeptByReturn env p said row parts Came Goes
+  by-return said row parts = record {
+    reads = reads-rest env.serve (back_service env row parts) (λ none closed. absurd (both_ways false refl closed));
+    holds = λ w k. stage-held (serving_settled env.serve w).0 (settled-stops env.serve w (k refl));
+    hands = λ w path choice k is. tt;
+    waits = λ w path k is. stage-waiting (spoken env.serve (waiting_service env w) []).0;
+  }
+
   by-rules : KeptByFront env p (λ g. Unit {0}) Came Goes
   by-rules = record {
     drops = tt;
@@ -157,6 +166,8 @@ module _ (env : FrontEnv) (p : FrontPart) (h : FrontStops env.serve.files p.row)
     assigns_next = λ n epoch ask m rest found there next. h;
     ends_again = λ n epoch last m row found away again. tt;
     ends = λ n epoch last m row found away. tt;
+    gives_again = λ n epoch parts m row found past. tt;
+    returns = λ n epoch given m row parts back. by-return (given_sent env.serve.c n epoch given) row parts;
     admits = λ choice made met row b path at target. tt;
   }
 

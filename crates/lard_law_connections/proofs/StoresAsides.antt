@@ -6,8 +6,7 @@ use Rattle.lard_law_view.specs.Prelude.{Client, EachMay, FilesAt, Front, Node, P
 use Rattle.lard_law_connections.proofs.Calm.{Allows, AllowsNotes}
 use Rattle.lard_law_connections.specs.StoresLaws.{MayStore, is_read}
 use Rattle.lard_counts.specs.Stores.{Queue, cache_of, cache_step, jobs, jobs_step, no_jobs, queue_of}
-use Rattle.lard_law_view.proofs.Saying.{NamesAll, NotedAt}
-use Rattle.lard_law_view.proofs.Shapes.{NamesNobody}
+use Rattle.lard_law_view.proofs.Saying.{NamesAll, NamesNobody, NotedAt}
 use Rattle.lard_history.proofs.Each.{Each}
 use Rattle.lard_journal.specs.declared.rec.Rec.TheVariants as rec
 

@@ -139,7 +139,7 @@ IsKept kept bytes = (k : Kept) × (kept ≡ k ∷ []) × (k.bytes ≡ bytes)
 
 -- A message of the front end: an Offer that is not decided is the one that is kept, and what it forwards is of the client's stream.
 abbrev pub FrontTells : Talk → ℕ → Part → ℕ → ℕ → List ℕ → Body → Type 0
-FrontTells k c p n e bytes (body.Offer parts) = IsDecided e (p.nodes n).row ⊎ IsKept p.front.kept bytes
+FrontTells k c p n e bytes (body.Offer parts) = IsDecided e (p.nodes n).row ⊎ (HasEnded e p.front.row ⊎ IsKept p.front.kept bytes)
 FrontTells k c p n e bytes (body.Forward segment) = (s : Said) × (segment ≡ spelled c ToCluster s) × IsWord k.w s
 FrontTells k c p n e bytes _ = Unit {0}
 

@@ -1,7 +1,7 @@
 -- What every place that could serve a connection knows of what was served on it, between any two steps.
 use Rattle.std.specs.Prelude.{◌≡◌, ◌⊎◌, ℕ, ◌-◌, ◌≤◌, Bool, true, false, List, Option, Some, None, Ok}
 use Rattle.lard_law_view.specs.Prelude.{BackConn, BackRow, Body, Conn, ControlBlock, Front, FrontConn, FrontRow, IsControlBlock, Letter, Message, Node, Part, Place, Tale, decoded_message, may_freeze, tale_at}
-use Rattle.lard_law_connections.specs.Places.{IsDecided}
+use Rattle.lard_law_connections.specs.Places.{HasEnded, IsDecided}
 use Rattle.lard_handoff_back.specs.declared.row.BackConn.TheVariants as back
 use Rattle.lard_handoff_front.specs.declared.row.FrontConn.TheVariants as stage
 use Rattle.lard_history.proofs.Each.{Each}
@@ -49,13 +49,13 @@ BackCounts stream w (Some row) = BackStageCounts stream w row.stage
 
 -- ---- packets
 
--- an Offer that its node has not decided: what is adopted from it begins with all that was served
-abbrev pub BodyCounts : ℕ → Served → ℕ → Option BackRow → Body → Type 0
-BodyCounts stream w e row (body.Offer parts) = IsDecided e row ⊎ IsWithinStream stream w (parts.una - 1)
-BodyCounts stream w e row _ = Unit {0}
+-- an Offer to node n that this has not decided, while the front end is not past it: what goes on from it begins with all that was served
+abbrev pub BodyCounts : ℕ → Served → Part → ℕ → ℕ → Body → Type 0
+BodyCounts stream w p n e (body.Offer parts) = IsDecided e (p.nodes n).row ⊎ HasEnded e p.front.row ⊎ IsWithinStream stream w (parts.una - 1)
+BodyCounts stream w p n e _ = Unit {0}
 
 abbrev pub LetterCountsOn : ℕ → Served → Part → Place → Place → List ℕ → Type 0
-LetterCountsOn stream w p Front (Node n) bytes = (m : Message) → decoded_message bytes ≡ Ok m → BodyCounts stream w m.epoch.0 (p.nodes n).row m.body
+LetterCountsOn stream w p Front (Node n) bytes = (m : Message) → decoded_message bytes ≡ Ok m → BodyCounts stream w p n m.epoch.0 m.body
 LetterCountsOn stream w p _ _ bytes = Unit {0}
 
 abbrev pub LetterCounts : ℕ → Served → Part → Letter → Type 0

@@ -1,6 +1,6 @@
 -- Where the sending side of a connection is, by what the front end and the nodes keep of it, and what its messages say of that.
 use Rattle.std.specs.Prelude.{◌≡◌, ◌≢◌, ◌⊎◌, ℕ, ◌+◌, ◌%◌, ◌<◌, ◌≤◌, List, option_map, Option, Some, None}
-use Rattle.lard_law_view.specs.Prelude.{BackConn, BackRow, Conn, Epoch, Front, FrontConn, FrontRow, IsEarlyAway, IsEarlyHere, IsEarlyOver, Kind, Letter, Node, NodePart, Part, Place, Tale, epoch_at, kind_named, number_byte, tale_at, version_at}
+use Rattle.lard_law_view.specs.Prelude.{BackConn, BackRow, Conn, Epoch, Front, FrontConn, FrontRow, IsOnceAway, IsOnceHere, IsOnceOver, Kind, Letter, Node, NodePart, Part, Place, Tale, epoch_at, kind_named, number_byte, tale_at, version_at}
 use Rattle.lard_handoff_back.specs.declared.row.BackConn.TheVariants.{Here, Out, Ended, Gone}
 use Rattle.lard_handoff_front.specs.declared.row.FrontConn.TheVariants.{Held, Waiting, Lent, Offering, Moved, Closed}
 use Rattle.lard_message.specs.declared.kind.Kind.TheVariants as kind
@@ -76,12 +76,12 @@ StageSits e w nodes (Closed last) = IsOdd e × IsHome e w nodes
 
 -- how late an epoch is at most, by the stage, while a connection leaves the front end once
 abbrev pub IsStageEarly : ℕ → FrontConn → Type 0
-IsStageEarly e (Held b) = IsEarlyHere e
-IsStageEarly e (Waiting b) = IsEarlyHere e
-IsStageEarly e Lent = IsEarlyHere e
-IsStageEarly e (Offering n d) = IsEarlyAway e
-IsStageEarly e (Moved n d) = IsEarlyAway e
-IsStageEarly e (Closed last) = IsEarlyOver e
+IsStageEarly e (Held b) = IsOnceHere e
+IsStageEarly e (Waiting b) = IsOnceHere e
+IsStageEarly e Lent = IsOnceHere e
+IsStageEarly e (Offering n d) = IsOnceAway e
+IsStageEarly e (Moved n d) = IsOnceAway e
+IsStageEarly e (Closed last) = IsOnceOver e
 
 abbrev pub IsRowEarly : Option FrontRow → Type 0
 IsRowEarly None = Unit {0}
@@ -120,6 +120,25 @@ abbrev pub IsOver : ℕ → Option BackRow → Type 0
 IsOver e None = ⊥
 IsOver e (Some row) = (e ≤ row.epoch.0) × (row.epoch.0 ≡ e → IsLeft row.stage)
 
+-- this epoch, or a later one
+abbrev pub IsReachedBy : ℕ → Option Epoch → Type 0
+IsReachedBy e None = ⊥
+IsReachedBy e (Some d) = e ≤ d.0
+
+-- its stay is of another epoch
+abbrev pub IsOfOther : ℕ → Option BackRow → Type 0
+IsOfOther e None = Unit {0}
+IsOfOther e (Some row) = row.epoch.0 ≢ e
+
+-- the node has a stay of this epoch, or had it last
+abbrev pub HasStay : ℕ → Option BackRow → Type 0
+HasStay e None = ⊥
+HasStay e (Some row) = row.epoch.0 ≡ e
+
+-- the node refused it in this epoch or in a later one, and has no stay of this epoch
+abbrev pub IsRefusedBy : ℕ → NodePart → Type 0
+IsRefusedBy e p = IsReachedBy e p.beside.refused × IsOfOther e p.row
+
 -- it is offered to node n in this epoch
 abbrev pub Offers : ℕ → ℕ → FrontConn → Type 0
 Offers n e (Offering m d) = (m ≡ n) × (d.0 ≡ e)
@@ -134,20 +153,29 @@ abbrev pub HasEnded : ℕ → Option FrontRow → Type 0
 HasEnded e None = ⊥
 HasEnded e (Some row) = e < row.epoch.0
 
+-- node n refused it in this epoch, and the front end is past that
+abbrev pub IsRefusalKnown : Part → ℕ → ℕ → Type 0
+IsRefusalKnown p n e = IsRefusedBy e (p.nodes n) × HasEnded e p.front.row
+
+-- or it is offered there still
+abbrev pub IsRefusalTold : Part → ℕ → ℕ → Type 0
+IsRefusalTold p n e = IsRefusedBy e (p.nodes n) × (HasEnded e p.front.row ⊎ IsOffered n e p.front.row)
+
 -- what holds for ever once the front end sent such a message to node n
 abbrev pub FrontSaid : Part → ℕ → ℕ → Kind → Type 0
-FrontSaid p n e kind.Offer = IsDecided e (p.nodes n).row ⊎ IsOffered n e p.front.row
+FrontSaid p n e kind.Offer = IsDecided e (p.nodes n).row ⊎ (IsOffered n e p.front.row ⊎ IsRefusalKnown p n e)
 FrontSaid p n e kind.EndedAck = HasEnded e p.front.row
+FrontSaid p n e kind.Given = HasEnded e p.front.row
 FrontSaid p n e _ = Unit {0}
 
--- and once a node sent such a message to the front end: none offers a connection, refuses one, or gives one back
-abbrev pub NodeSaid : Option BackRow → ℕ → Kind → Type 0
-NodeSaid row e kind.Offer = ⊥
-NodeSaid row e kind.Taken = IsDecided e row
-NodeSaid row e kind.Ended = IsOver e row
-NodeSaid row e kind.Refused = ⊥
-NodeSaid row e kind.Give = ⊥
-NodeSaid row e _ = Unit {0}
+-- and once a node sent such a message to the front end: none offers a connection, or gives one back
+abbrev pub NodeSaid : Part → ℕ → ℕ → Kind → Type 0
+NodeSaid p n e kind.Offer = ⊥
+NodeSaid p n e kind.Taken = IsDecided e (p.nodes n).row
+NodeSaid p n e kind.Ended = IsOver e (p.nodes n).row
+NodeSaid p n e kind.Refused = IsRefusalTold p n e
+NodeSaid p n e kind.Give = ⊥
+NodeSaid p n e _ = Unit {0}
 
 -- and once a node sent it to another one
 abbrev pub OtherSaid : Option BackRow → ℕ → Kind → Type 0
@@ -156,7 +184,7 @@ OtherSaid row e _ = Unit {0}
 
 abbrev pub MaySay : Part → Place → Place → Option Head → Type 0
 MaySay p Front (Node n) (Some h) = FrontSaid p n h.epoch h.kind
-MaySay p (Node n) Front (Some h) = NodeSaid (p.nodes n).row h.epoch h.kind
+MaySay p (Node n) Front (Some h) = NodeSaid p n h.epoch h.kind
 MaySay p (Node n) (Node m) (Some h) = OtherSaid (p.nodes n).row h.epoch h.kind
 MaySay p _ _ _ = Unit {0}
 

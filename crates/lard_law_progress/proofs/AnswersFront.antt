@@ -2,7 +2,7 @@
 -- near, something of that is nearer.
 use Rattle.std.proofs.Common.{◌≡◌, ℕ, suc, true, false, List, Option, Some, None, Result, Ok, Err, refl, sym, ap, ◌∙◌, subst}
 use Rattle.lard_base.specs.declared.event.Event.TheVariants as event
-use Rattle.lard_law_view.specs.Prelude.{Body, Client, Conn, Final, Front, FrontConn, FrontDeed, FrontEnv, FrontRow, FrontRules, IsForFront, IsFrontEnv, IsUnheard, Letter, MayRestOn, Message, Move, MsgFault, Node, Place, Said, SegFault, Setting, Station, ToCluster, Was, ask_of, decoded, decoded_message, event_seen, front_asked, front_does, front_ended, front_gets, front_hears, front_rest, front_taken, front_timer, grown, hears_at, kind_of, nothing_said, packet_seen, stands}
+use Rattle.lard_law_view.specs.Prelude.{Body, Client, Conn, Final, Front, FrontConn, FrontDeed, FrontEnv, FrontRow, FrontRules, IsForFront, IsFrontEnv, IsUnheard, Letter, MayRestOn, Message, Move, MsgFault, Node, Place, Said, SegFault, Setting, Station, ToCluster, Was, ask_of, decoded, decoded_message, event_seen, front_asked, front_does, front_ended, front_gets, front_hears, front_rest, front_returned, front_taken, front_timer, grown, hears_at, kind_of, nothing_said, packet_seen, stands}
 use Rattle.lard_bound.specs.Nears.{NearSaid, OfMessage}
 use Rattle.lard_bound.specs.Progress.{Answers, IsWarm, IsWarmBy, IsWarmSegment, IsWarmWord, Lasts, NearOn, spot_at, spot_with}
 use Rattle.lard_bound.specs.Seats.{Held, Over, SeatNow, Waiting, seat_in, seat_of}
@@ -18,6 +18,7 @@ use Rattle.lard_law_progress.proofs.AnswersForm as form
 use Rattle.lard_law_progress.proofs.AnswersFrontGiven.{AtSeat, FrontGiven, IsOnlyRefusal, IsStage, IsWord}
 use Rattle.lard_law_progress.proofs.AnswersFrontHolding.{heard-owes}
 use Rattle.lard_law_progress.proofs.AnswersFrontOver.{over-owes}
+use Rattle.lard_law_progress.proofs.AnswersFrontReturned.{returned-answers}
 use Rattle.lard_law_progress.proofs.AnswersFrontSpots.{seat-row}
 use Rattle.lard_law_progress.proofs.AnswersFrontTold.{ended-answers, taken-answers}
 use Rattle.lard_law_progress.proofs.AnswersFrontWaiting.{waiting-owes}
@@ -93,6 +94,8 @@ module _ (k : Setting) (all : ℕ → Whole) where
         let last : Final = record { reason = reason; snd = record { 0 = snd }; rcv = record { 0 = rcv } } in
         by-packet x (Node n) Front bytes (front_ended env x.part.front n epoch last)
         (λ may warm late. ended-answers k (all x.c) x env is_env may.number may.given n bytes epoch reason snd rcv count spells last);
+    returned = λ x env n epoch back bytes is_env spells sent. by-packet x (Node n) Front bytes (front_returned env x.part.front n epoch back)
+        (λ may warm late. returned-answers k (all x.c) x env is_env may.number may.given n bytes epoch back spells sent);
     admitted = λ x env choice given is_env is may later warm late lasts. tt;
   }
 
@@ -106,10 +109,13 @@ module _ (k : Setting) (w : Whole) where
     by : (b : Body) → m.body ≡ b → NearSaid t d n m.epoch.0 b → ⊥
     by (body.Taken) e near = never m is (subst (λ b. IsForFront (kind_of b)) (sym e) tt)
     by (body.Ask number queue size paths) e near = never m is (subst (λ b. IsForFront (kind_of b)) (sym e) tt)
+    by body.Refused e near = never m is (subst (λ b. IsForFront (kind_of b)) (sym e) tt)
+    by (body.Give parts) e near = never m is (subst (λ b. IsForFront (kind_of b)) (sym e) tt)
     by (body.Ended why snd rcv count) e near = never m is (subst (λ b. IsForFront (kind_of b)) (sym e) tt)
     by _ e near = near
 
-  pub front-ignores : (x : Conn) (from : Place) (bytes : List ℕ) → IsUnheard k.nodes x.part.station from Front bytes → Answers k w x (stands x Front (packet_seen from Front bytes) nothing_said) (record { from = from; to = Front; bytes = bytes })
+  pub front-ignores : (x : Conn) (from : Place) (bytes : List ℕ) → IsUnheard k.nodes x.part.station from Front bytes
+      → Answers k w x (stands x Front (packet_seen from Front bytes) nothing_said) (record { from = from; to = Front; bytes = bytes })
   front-ignores x from bytes unheard = record { shorter = λ up. tt; leads = λ up d near. absurd (far from unheard (spot_at k.files x) refl d near) } where
     far : (from : Place) → IsUnheard k.nodes x.part.station from Front bytes → (o : Option Spot) → spot_at k.files x ≡ o → (d : ℕ) → NearOn k.files o x.c (suc d) (record { from = from; to = Front; bytes = bytes }) → ⊥
     far from unheard None is d near = near

@@ -80,7 +80,7 @@ module _ (k : Setting) (w : Whole) (x : Conn) (bytes : List ℕ) where
       near-forward : (t : Spot) (told : Bool) (node e count : ℕ) (q : NodePart) (d : ℕ) → NearWord t (suc d) s (post_of k.files st.client (seat_away told node e count q))
           → NearForward t d node e (Ok s) (post_of k.files st.client (seat_away told node e count q))
       near-forward t told node e count q d = away-cases told node e count q (λ (z : SeatNow). NearWord t (suc d) s (post_of k.files st.client z) → NearForward t d node e (Ok s) (post_of k.files st.client z))
-          (λ near. near) (λ b near. (refl, refl, near)) (λ near. near)
+          (λ near. near) (λ near. near) (λ b near. (refl, refl, near)) (λ near. near) (λ served near. near)
 
       pub forwarded-owes : (env : FrontEnv) → IsFrontEnv k x.c env → IsConnNumber x.c → IsWord st (seat_of x.part) bytes s → (told : Bool) (node count : ℕ) (e : Epoch) → e.0 < 2 ^ 16
           → seat_of x.part ≡ seat_away told node e.0 count (x.part.nodes node) → Owes (forwarded env node e bytes)

@@ -1,14 +1,17 @@
 -- What holds of a connection in a settle, as far as the front end's answers rest on it.
 use Rattle.std.proofs.Common.{◌≡◌, ◌⊎◌, ◌<◌, ◌≤◌, ◌+◌, ◌^◌, ℕ, true, false, length, is_some, Option, Some, None, Ok, List, Bool}
 use Rattle.std.specs.List.{AllByRecursion, find}
-use Rattle.lard_law_view.specs.Prelude.{Client, Conn, ControlBlock, Epoch, FilesAt, Final, Front, FrontConn, FrontRest, FrontRow, IsControlBlock, IsNodeNumber, Letter, MAX_SEGMENT_BYTES, Said, Station, ToCluster, Was, decoded, is_under, may_end, may_freeze, named_paths, receive_room, seg_len, seq_add, seq_offset, symbols}
+use Rattle.lard_law_view.specs.Prelude.{Client, Conn, ControlBlock, EndpointParts, Epoch, FilesAt, Final, Front, FrontConn, FrontRest, FrontRow, IsControlBlock, IsNodeNumber, Letter, MAX_SEGMENT_BYTES, Node, Said, SpellsMessage, Station, ToCluster, Was, back_body, decoded, is_under, may_end, may_freeze, named_paths, parts_kept, receive_room, seg_len, seq_add, seq_offset, symbols}
 use Rattle.lard_base.specs.declared.place.Reason.TheVariants.{Closed}
 use Rattle.lard_base.specs.declared.place.TimerKind.TheVariants as kind
-use Rattle.lard_bound.specs.Seats.{Gone, Held, Here, Offered, Over, SeatNow, Staying, Unborn, Waiting, seat_of, tells_end}
+use Rattle.lard_bound.specs.Seats.{Gone, Held, Here, Offered, Over, Refused, Returned, SeatNow, Staying, Unborn, Waiting, seat_of, tells_end}
 use Rattle.lard_bound.specs.Units.{Whole, symbols_taken}
 use Rattle.lard_client.specs.declared.phase.Phase.TheVariants as phase
 use Rattle.lard_handoff_front.specs.declared.row.FrontConn.TheVariants as stage
+use Rattle.lard_message.specs.declared.message.Body.TheVariants as body
+use Rattle.lard_rules.proofs.FrontCases.{IsBack}
 use Rattle.lard_law_progress.proofs.Data.{heard}
+use Rattle.lard_law_progress.proofs.Given.{IsFrom}
 use Rattle.lard_law_progress.proofs.Silence.{IsSilent}
 
 -- ---- endpoints
@@ -43,6 +46,8 @@ AtSeat w st Unborn = Unit {0}
 AtSeat w st (Held b count) = IsTalking st b × (count ≤ w.requests) × (symbols_taken st.client ≤ w.answers + 2)
 AtSeat w st (Waiting b count) = IsTalking st b × (may_freeze b ≡ true)
 AtSeat w st (Offered n e count) = Unit {0}
+AtSeat w st (Refused n e count) = Unit {0}
+AtSeat w st (Returned told n e served) = Unit {0}
 AtSeat w st (Here told n e b s) = Unit {0}
 AtSeat w st (Gone told n e) = Unit {0}
 AtSeat w st (Over last) = HasClosed st last
@@ -91,6 +96,17 @@ abbrev pub IsAsked : FilesAt → Staying → Option FrontRest → Type 0
 IsAsked files s None = ⊥
 IsAsked files s (Some rest) = (s.stay.asks ≡ rest.asks + 1) ⊎ ((s.stay.asks ≡ rest.asks) × (0 < rest.asks) × (length rest.tag ≡ length (named_paths files s.stay.batch)))
 
+-- Of a connection that comes back: where a node refused it, it is offered to that node still, with its parts. It comes back from where it
+-- is, in the front end's epoch, and a Give is of an epoch that fits a message.
+pub record ComesBackKnown (x : Conn) : Type 0 where
+  pub refused : (n e count : ℕ) → seat_of x.part ≡ Refused n e count
+      → (row : FrontRow) × (x.part.front.row ≡ Some row) × (row.stage ≡ stage.Offering n (record { 0 = e })) × (parts : EndpointParts)
+          × (parts_kept x.part.front.kept ≡ Some parts)
+  pub returns : (n e : ℕ) (given : Option EndpointParts) (bytes : List ℕ) → SpellsMessage x.c e (back_body given) bytes → Was x (Node n) Front bytes
+      → (row : FrontRow) (parts : EndpointParts) → IsBack x.part.front n e given row parts → (row.epoch.0 ≡ e) × IsFrom given n e parts.served (seat_of x.part)
+  pub given : (told : Bool) (n e served : ℕ) → seat_of x.part ≡ Returned told n e served → (row : FrontRow) → x.part.front.row ≡ Some row → row.epoch.0 ≡ e
+  pub gives : (n e : ℕ) (parts : EndpointParts) (bytes : List ℕ) → SpellsMessage x.c e (body.Give parts) bytes → Was x (Node n) Front bytes → e < 2 ^ 16
+
 pub record FrontGiven (files : FilesAt) (w : Whole) (x : Conn) : Type 0 where
   pub unopened : x.part.station ≡ None → x.part.front.row ≡ None
   pub stages : (row : FrontRow) → x.part.front.row ≡ Some row → IsStage row.stage
@@ -98,5 +114,6 @@ pub record FrontGiven (files : FilesAt) (w : Whole) (x : Conn) : Type 0 where
   pub ended : (row : FrontRow) (last : Final) (n i : ℕ) → x.part.front.row ≡ Some row → seat_of x.part ≡ Over last → tells_end (x.part.nodes n).row ≡ Some i → row.ended_by ≡ Some (record { 0 = i })
   pub tags : (rest : FrontRest) → x.part.front.rest ≡ Some rest → 0 < rest.asks → HasTag rest
   pub asks : (told : Bool) (n e : ℕ) (b : ControlBlock) (s : Staying) → seat_of x.part ≡ Here told n e b s → is_some (find (is_under kind.Ask 0) s.kept) ≡ true → IsAsked files s x.part.front.rest
+  pub back : ComesBackKnown x
   pub seats : (st : Station) → x.part.station ≡ Some st → AtSeat w st (seat_of x.part)
   pub words : (st : Station) (bytes : List ℕ) (s : Said) → x.part.station ≡ Some st → Was x (Client x.c) Front bytes → decoded bytes x.c ToCluster ≡ Ok s → IsWord st (seat_of x.part) bytes s

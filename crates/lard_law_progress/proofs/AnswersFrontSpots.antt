@@ -5,10 +5,11 @@ use Rattle.lard_law_view.specs.Prelude.{BackConn, BackRow, Client, Conn, Control
 use Rattle.lard_bound.specs.Chains.{chain, chain_between, is_current, reply_chain, word_chain}
 use Rattle.lard_bound.specs.Nears.{Near}
 use Rattle.lard_bound.specs.Progress.{Answers, Any, Every, Lasts, NearOn, chain_at, chain_on, spot_at, spot_with}
-use Rattle.lard_bound.specs.Seats.{Gone, Here, Offered, SeatNow, seat_away, seat_by, seat_decided, seat_of, seat_there, staying_of, tells_end}
+use Rattle.lard_bound.specs.Seats.{Gone, Here, Offered, Refused, Returned, SeatNow, seat_away, seat_by, seat_decided, seat_of, seat_over, seat_over_by, seat_there, seat_untaken, staying_of, tells_end}
 use Rattle.lard_bound.specs.Spots.{Nowhere, Post, Spot, post_of, spot_of}
 use Rattle.lard_bound.specs.Units.{Whole, left_to_client, left_with, units}
 use Rattle.lard_handoff_back.specs.declared.row.BackConn.TheVariants as back
+use Rattle.lard_handoff_back.specs.Leaving.{is_this_epoch}
 
 -- ---- seats
 
@@ -41,18 +42,35 @@ pub seat-row : (p : Part) (o : Option FrontRow) → p.front.row ≡ o → seat_o
 unfolding seat_of
 seat-row p o e = ap (seat_by p.front p.nodes) e
 
+-- one that its node did not take was refused, or its answer is awaited
+pub untaken-cases : (n e count : ℕ) (q : NodePart) (P : SeatNow → Type 0) → P (Offered n e count) → P (Refused n e count) → P (seat_untaken n e count q)
+untaken-cases n e count q P out refused = cond_both (is_this_epoch e q.beside.refused) (Refused n e count) (Offered n e count) P (λ t. refused) (λ t. out)
+
+-- one whose stay is over ended, or is given back
+pub over-cases : (told : Bool) (n e : ℕ) (q : NodePart) (P : SeatNow → Type 0) → P (Gone told n e) → ((served : ℕ) → P (Returned told n e served))
+    → P (seat_over told n e q)
+over-cases told n e q P gone returned = go q.beside.returned where
+  go : (o : Option ℕ) → P (seat_over_by told n e o)
+  go None = gone
+  go (Some served) = returned served
+
 -- what a node has decided of the epoch in which it was offered
-pub away-cases : (told : Bool) (n e count : ℕ) (q : NodePart) (P : SeatNow → Type 0) → P (Offered n e count) → ((b : ControlBlock) → P (Here told n e b (staying_of q))) → P (Gone told n e) → P (seat_away told n e count q)
-away-cases told n e count q P out here gone = go q.row where
+pub away-cases : (told : Bool) (n e count : ℕ) (q : NodePart) (P : SeatNow → Type 0) → P (Offered n e count) → P (Refused n e count)
+    → ((b : ControlBlock) → P (Here told n e b (staying_of q))) → P (Gone told n e)
+    → ((served : ℕ) → P (Returned told n e served)) → P (seat_away told n e count q)
+away-cases told n e count q P out refused here gone returned = go q.row where
+  untaken : P (seat_untaken n e count q)
+  untaken = untaken-cases n e count q P out refused
+
   there : (c : BackConn) → P (seat_there told n e count q c)
   there (back.Here b) = here b
   there back.Out = out
-  there back.Ended = gone
-  there back.Gone = gone
+  there back.Ended = over-cases told n e q P gone returned
+  there back.Gone = over-cases told n e q P gone returned
 
   go : (o : Option BackRow) → P (seat_decided told n e count q o)
-  go None = out
-  go (Some row) = cond_both (row.epoch.0 == e) (seat_there told n e count q row.stage) (Offered n e count) P (λ t. there row.stage) (λ t. out)
+  go None = untaken
+  go (Some row) = cond_both (row.epoch.0 == e) (seat_there told n e count q row.stage) (seat_untaken n e count q) P (λ t. there row.stage) (λ t. untaken)
 
 -- ---- what comes of a packet
 

@@ -5,7 +5,7 @@ use Rattle.std.proofs.lemmas.Bool.{cond_both, eq-eqb, eqb-true}
 use Rattle.lard_law_view.specs.Prelude.{ClientBlock, Conn, Epoch, Final, FrontConn, FrontEnv, FrontRow, IsConnNumber, IsFrontEnv, NodePart, Reason, Setting, SpellsMessage, Station, ack_sent, asked_node, end_answer, ended_with, front_ended, front_ended_by, front_rest, front_saying, front_taken, is_away, next_epoch, offered_to, taken_by}
 use Rattle.lard_bound.specs.Chains.{chain, node_chain, of_message}
 use Rattle.lard_bound.specs.Nears.{Near, NearEnding, NearSaid, NearTaken, OfMessage}
-use Rattle.lard_bound.specs.Seats.{Gone, Held, Here, Offered, Over, SeatNow, Unborn, Waiting, seat_away, seat_in, seat_of, tells_end}
+use Rattle.lard_bound.specs.Seats.{Gone, Held, Here, Offered, Over, Refused, Returned, SeatNow, Unborn, Waiting, seat_away, seat_in, seat_of, tells_end}
 use Rattle.lard_bound.specs.Spots.{Spot, post_of}
 use Rattle.lard_bound.specs.Units.{Whole}
 use Rattle.lard_rules.specs.Front.{Says, message}
@@ -22,12 +22,15 @@ use Rattle.lard_law_progress.proofs.AnswersFrontSpots.{answers-by, at_seat, away
 module _ (k : Setting) (w : Whole) (x : Conn) (given : FrontGiven k.files w x) (n : ℕ) (bytes : List ℕ) (epoch : ℕ) (spells : SpellsMessage x.c epoch body.Taken bytes) where
   -- once the front end knows, none is awaited
   never : (xc : ClientBlock) (m e count : ℕ) (q : NodePart) (d : ℕ) → NearTaken d epoch (post_of k.files xc (seat_away true m e count q)) → ⊥
-  never xc m e count q d = away-cases true m e count q (λ (z : SeatNow). NearTaken d epoch (post_of k.files xc z) → ⊥) (λ near. near) (λ b near. near) (λ near. near)
+  never xc m e count q d = away-cases true m e count q (λ (z : SeatNow). NearTaken d epoch (post_of k.files xc z) → ⊥) (λ near. near) (λ near. near)
+      (λ b near. near) (λ near. near) (λ served near. near)
 
   -- nor where it is not offered
   unawaited : (xc : ClientBlock) (c : FrontConn) → offered_to epoch c ≡ None → (d : ℕ) → NearTaken d epoch (post_of k.files xc (seat_in x.part.front x.part.nodes c)) → ⊥
   unawaited xc (stage.Offering m e) none d near =
-      away-cases false m e.0 (front_rest x.part.front.rest).count (x.part.nodes m) (λ (z : SeatNow). NearTaken d epoch (post_of k.files xc z) → ⊥) (λ near. near) (λ b near. differ near.0) (λ near. differ near.0) near
+      away-cases false m e.0 (front_rest x.part.front.rest).count (x.part.nodes m) (λ (z : SeatNow). NearTaken d epoch (post_of k.files xc z) → ⊥)
+          (λ near. near) (λ near. near) (λ b near. differ near.0) (λ near. differ near.0)
+      (λ served near. differ near.0) near
     where
       differ : e.0 ≡ epoch → ⊥
       differ same = let t : offered_to epoch (stage.Offering m e) ≡ Some m = ap (λ (t : Bool). cond t (Some m) None) (eq-eqb e.0 epoch same) in let bad : Some m ≡ None = sym t ∙ none in cc
@@ -86,6 +89,8 @@ module _ (k : Setting) (w : Whole) (x : Conn) (env : FrontEnv) (is_env : IsFront
   near-end st (Held b c) seat row is out d near = absurd near
   near-end st (Waiting b c) seat row is out d near = absurd near
   near-end st (Offered m e c) seat row is out d near = absurd near
+  near-end st (Refused m e c) seat row is out d near = absurd near
+  near-end st (Returned told m e c) seat row is out d near = absurd near
   near-end st (Here told m e b s) seat row is out d near = absurd near
   near-end st (Gone told m e) seat row is out d near =
       let home = gone-home x.part row told m e is seat in
@@ -107,7 +112,8 @@ module _ (k : Setting) (w : Whole) (x : Conn) (env : FrontEnv) (is_env : IsFront
       unit-goes k w x v (l k w x n bytes) (λ up. apart row.stage away (moves-on k w x v (l k w x n bytes) st was was (seat_in x.part.front x.part.nodes row.stage) (Over last) (seat-row x.part (Some row) is) (over row) lasts up))
     where
       from : (told : Bool) (m e count : ℕ) (q : NodePart) → post_of k.files st.client (Over last) ≡ post_of k.files st.client (seat_away told m e count q) → ⊥
-      from told m e count q = away-cases told m e count q (λ (z : SeatNow). post_of k.files st.client (Over last) ≡ post_of k.files st.client z → ⊥) (λ f. cc) (λ b f. cc) (λ f. cc)
+      from told m e count q = away-cases told m e count q (λ (z : SeatNow). post_of k.files st.client (Over last) ≡ post_of k.files st.client z → ⊥)
+          (λ f. cc) (λ f. cc) (λ b f. cc) (λ f. cc) (λ served f. cc)
 
       apart : (c : FrontConn) → is_away epoch c ≡ true → post_of k.files st.client (Over last) ≡ post_of k.files st.client (seat_in x.part.front x.part.nodes c) → ⊥
       apart (stage.Held b) away f = cc

@@ -5,7 +5,7 @@ use Rattle.lard_law_view.specs.Prelude.{BackRow, Body, Client, Conn, Front, IsFo
 use Rattle.lard_base.specs.declared.place.TimerKind.TheVariants as timer
 use Rattle.lard_bound.specs.Nears.{Near, NearAside, NearForward, NearOffer, NearTold, OfMessage}
 use Rattle.lard_bound.specs.Progress.{Answers, IsFetch, NearOn, spot_with}
-use Rattle.lard_bound.specs.Seats.{Gone, Here, Offered, SeatNow, seat_of, tells_end}
+use Rattle.lard_bound.specs.Seats.{Gone, Here, Offered, Refused, Returned, SeatNow, seat_of, tells_end}
 use Rattle.lard_bound.specs.Spots.{Spot, post_of, spot_of}
 use Rattle.lard_bound.specs.Units.{Whole}
 use Rattle.lard_message.specs.declared.message.Body.TheVariants as body
@@ -36,7 +36,9 @@ module _ (k : Setting) (w : Whole) (x : Conn) where
       go : (z : SeatNow) → seat_of x.part ≡ z → Sits x.part z → NearOffer d n e (post_of k.files st.client z) → there n
       go (Here told m f b s) is sits h = row-there m _ sits.0.there h.0
       go (Gone told m f) is sits h = row-there m sits.row sits.there h.0
+      go (Returned told m f served) is sits h = row-there m sits.row sits.there h.0
       go (Offered m f count) is sits h = subst there h.0 (given.placed m f count is)
+      go (Refused m f count) is sits h = absurd (given.unrefused m f count is)
       go _ is sits h = absurd h
 
     forward-there : (d e : ℕ) (r : Result Said SegFault) → NearForward t d n e r t.post → there n

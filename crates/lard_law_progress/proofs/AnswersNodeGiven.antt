@@ -1,10 +1,11 @@
 -- What is given of a connection, on which the rules of its nodes rest.
 use Rattle.std.proofs.Common.{◌≡◌, ◌<◌, ◌≤◌, ◌+◌, ◌^◌, ℕ, Bool, List, true, false, length, None, Some, Ok}
 use Rattle.lard_law_view.specs.Prelude.{AreBytes, BackRow, Conn, ControlBlock, EndpointParts, Front, FrontRow, Has, Letter, MAX_FILE_BYTES, Node, Said, Setting, SpellsMessage, Station, Stay, ToCluster, Was, decoded, is_no_node, offer_answer, seg_len, seq_add, seq_offset, symbols}
-use Rattle.lard_bound.specs.Seats.{Here, Offered, Staying, seat_of}
+use Rattle.lard_bound.specs.Seats.{Here, Offered, Refused, Staying, seat_of}
 use Rattle.lard_bound.specs.Units.{Whole, symbols_taken}
 use Rattle.lard_handoff_back.specs.declared.row.BackConn.TheVariants as back
 use Rattle.lard_handoff_back.specs.declared.table.Adopt.TheVariants.{New}
+use Rattle.lard_handoff_back.specs.Leaving.{is_this_epoch}
 use Rattle.lard_handoff_front.specs.declared.row.FrontConn.TheVariants as stage
 use Rattle.lard_message.specs.declared.message.Body.TheVariants as body
 use Rattle.lard_law_progress.proofs.AnswersFrontGiven.{IsTalking}
@@ -37,6 +38,9 @@ pub record NodeGiven (k : Setting) (w : Whole) (x : Conn) : Type 0 where
   -- an Offer that is new to its node is the one that the front end makes
   pub news : (n e : ℕ) (parts : EndpointParts) (bytes : List ℕ) → SpellsMessage x.c e (body.Offer parts) bytes → Was x Front (Node n) bytes → offer_answer e (x.part.nodes n).row ≡ New
       → (row : FrontRow) × (x.part.front.row ≡ Some row) × (row.stage ≡ stage.Offering n (record { 0 = e }))
+          × (is_this_epoch e (x.part.nodes n).beside.refused ≡ false)
+  -- INTERIM: no node refuses a connection, so none that was refused is offered again
+  pub unrefused : (n e count : ℕ) → seat_of x.part ≡ Refused n e count → ⊥
   -- a node to which a connection is offered had none of it before
   pub fresh : (n e count : ℕ) → seat_of x.part ≡ Offered n e count → (x.part.nodes n).row ≡ None
   -- no more requests were read than there are

@@ -1,17 +1,18 @@
 -- What comes of an Offer: one that is new is a unit, and one that was decided is answered by Taken again.
-use Rattle.std.proofs.Common.{◌≡◌, ◌≤◌, ◌==◌, ◌⊎◌, nat_lt, ◌&&◌, ℕ, suc, Bool, true, false, cond, List, Some, None, inl, inr, refl, sym, ap, ◌∙◌, subst, arith}
+use Rattle.std.proofs.Common.{◌≡◌, ◌≤◌, ◌==◌, ◌⊎◌, nat_lt, ◌&&◌, ℕ, suc, Bool, true, false, cond, List, Option, Some, None, inl, inr, refl, sym, ap, ◌∙◌, subst, arith}
 use Rattle.std.proofs.lemmas.Bool.{cond-true}
 use Rattle.std.proofs.lemmas.Bool.Decides.{nat_tests}
 use Rattle.lard_law_view.specs.Prelude.{Adopt, BackRow, Conn, ControlBlock, Ending, EndpointParts, FilesAt, Front, FrontRow, IsMessage, IsNodeEnv, Letter, Message, Node, NodeEnv, NodePart, Part, Place, Setting, SpellsMessage, Station, Was, Work, front_rest, is_gone, kept_after, node_offered, node_rests, offer_answer, offered_by, serving_settled, speaks, taken_sent, with_node}
 use Rattle.lard_bound.specs.Chains.{chain, front_chain, of_message}
 use Rattle.lard_bound.specs.Nears.{IsUnaware, Near, NearOffer, NearTaken, NearTold, OfMessage}
 use Rattle.lard_bound.specs.Progress.{IsFetch}
-use Rattle.lard_bound.specs.Seats.{Gone, Here, Offered, Over, SeatNow, seat_of}
-use Rattle.lard_bound.specs.Spots.{AtNode, Left, OnOffer, Post, Spot, awaits_of, ends_of, post_of, spot_of}
+use Rattle.lard_bound.specs.Seats.{Gone, Here, Offered, Over, Refused, Returned, SeatNow, seat_of}
+use Rattle.lard_bound.specs.Spots.{AtNode, GaveBack, Left, OnOffer, Post, Spot, awaits_of, ends_of, post_of, spot_of}
 use Rattle.lard_bound.specs.Seats as seats
 use Rattle.lard_bound.specs.Units.{Whole}
 use Rattle.lard_handoff_back.specs.declared.row.BackConn.TheVariants as back
 use Rattle.lard_handoff_back.specs.declared.table.Adopt.TheVariants as adopt
+use Rattle.lard_handoff_back.specs.Leaving.{is_this_epoch}
 use Rattle.lard_handoff_front.specs.declared.row.FrontConn.TheVariants as stage
 use Rattle.lard_message.specs.declared.message.Body.TheVariants as body
 use Rattle.lard_message.proofs.Whole.{spelled_so}
@@ -22,7 +23,7 @@ use Rattle.lard_law_progress.proofs.AnswersNodeDeeds.{OwesBy, does-owes, drops-o
 use Rattle.lard_law_progress.proofs.AnswersNodeGiven.{NodeGiven}
 use Rattle.lard_law_progress.proofs.AnswersNodeSeats.{Sits, seat-sits}
 use Rattle.lard_law_progress.proofs.AnswersNodeStill.{post-is}
-use Rattle.lard_law_progress.proofs.Away.{IsWith, away-ended, away-here, by-ending, seat-put, seat-with}
+use Rattle.lard_law_progress.proofs.Away.{IsWith, away-here, away-over, by-ending, seat-put, seat-with}
 use Rattle.lard_law_progress.proofs.NodeMessages.{new-row}
 use Rattle.lard_law_progress.proofs.NodeRules.{taking}
 use Rattle.lard_rules.specs.declared.places.Ending.TheVariants as ending
@@ -38,7 +39,8 @@ known-answer e row is = cond-true (row.epoch.0 == e) adopt.Again (cond (nat_lt r
 abbrev pub IsMet : Part → ℕ → ℕ → ℕ → Post → Type 0
 IsMet p d n e z = (offer_answer e (p.nodes n).row ≡ adopt.New) ⊎ ((offer_answer e (p.nodes n).row ≡ adopt.Again) × NearTaken d e z)
 
-module _ (files : FilesAt) (p : Part) (st : Station) (n e : ℕ) (fresh : (n e count : ℕ) → seat_of p ≡ Offered n e count → (p.nodes n).row ≡ None) where
+module _ (files : FilesAt) (p : Part) (st : Station) (n e : ℕ) (fresh : (n e count : ℕ) → seat_of p ≡ Offered n e count → (p.nodes n).row ≡ None)
+    (unrefused : (n e count : ℕ) → seat_of p ≡ Refused n e count → ⊥) where
   unaware : (told : Bool) (d : ℕ) → IsUnaware told (suc d) → (told ≡ false) × (1 ≤ d)
   unaware true d h = absurd h
   unaware false d h = let two : 2 ≤ suc d = h in (refl, omega (arith, two))
@@ -50,26 +52,32 @@ module _ (files : FilesAt) (p : Part) (st : Station) (n e : ℕ) (fresh : (n e c
       let row_is : (p.nodes n).row ≡ Some row = subst (λ (i : ℕ). (p.nodes i).row ≡ Some row) same_n there in
       inr (ap (offer_answer e) row_is ∙ known-answer e row (epoch ∙ same_e), subst (λ (t : Bool). NearTaken d e (post_of files st.client (Here t m f b s))) (sym u.0) (same_e, u.1))
 
-  away : (told : Bool) (m f d : ℕ) (row : BackRow) → (p.nodes m).row ≡ Some row → row.epoch.0 ≡ f → m ≡ n → f ≡ e → IsUnaware told (suc d) → IsMet p d n e (Left told m f)
-  away told m f d row there epoch same_n same_e h =
+  -- its stay is over: it ended, or is given back
+  away : (d : ℕ) (over : Bool → Post) → (1 ≤ d → NearTaken d e (over false)) → (told : Bool) (m f : ℕ) (row : BackRow) → (p.nodes m).row ≡ Some row
+      → row.epoch.0 ≡ f → m ≡ n → f ≡ e → IsUnaware told (suc d)
+      → IsMet p d n e (over told)
+  away d over taken told m f row there epoch same_n same_e h =
       let u = unaware told d h in
       let row_is : (p.nodes n).row ≡ Some row = subst (λ (i : ℕ). (p.nodes i).row ≡ Some row) same_n there in
-      inr (ap (offer_answer e) row_is ∙ known-answer e row (epoch ∙ same_e), subst (λ (t : Bool). NearTaken d e (Left t m f)) (sym u.0) (same_e, u.1))
+      inr (ap (offer_answer e) row_is ∙ known-answer e row (epoch ∙ same_e), subst (λ (t : Bool). NearTaken d e (over t)) (sym u.0) (taken u.1))
 
   pub offer-met : (d : ℕ) → NearOffer (suc d) n e (spot_of files p st).post → IsMet p d n e (spot_of files p st).post
   offer-met d near = subst (IsMet p d n e) (sym (post-is files p st)) (go (seat_of p) refl (seat-sits p) (subst (NearOffer (suc d) n e) (post-is files p st) near)) where
     go : (z : SeatNow) → seat_of p ≡ z → Sits p z → NearOffer (suc d) n e (post_of files st.client z) → IsMet p d n e (post_of files st.client z)
     go (Here told m f b s) is sits h = at-node told m f d b s (record { stage = back.Here b; epoch = record { 0 = f } }) sits.0.there refl h.0 h.1 h.2
-    go (Gone told m f) is sits h = away told m f d sits.row sits.there sits.epoch h.0 h.1 h.2
+    go (Gone told m f) is sits h = away d (λ t. Left t m f) (λ low. (h.1, low)) told m f sits.row sits.there sits.epoch h.0 h.1 h.2
+    go (Returned told m f served) is sits h = away d (λ t. GaveBack t m f) (λ low. (h.1, low)) told m f sits.row sits.there sits.epoch h.0 h.1 h.2
     go (Offered m f count) is sits h =
         let none : (p.nodes n).row ≡ None = subst (λ (i : ℕ). (p.nodes i).row ≡ None) h.0 (fresh m f count is) in
         inl (ap (offer_answer e) none)
+    go (Refused m f count) is sits h = absurd (unrefused m f count is)
     go _ is sits h = absurd h
 
 -- ---- one that is new
 
 module _ (files : FilesAt) (p : Part) (st : Station) (n : ℕ) (env : NodeEnv) (row : FrontRow) (front : p.front.row ≡ Some row) (with_ : IsWith false n env.epoch row.stage)
-    (is_new : offer_answer env.epoch (p.nodes n).row ≡ adopt.New) (before : List (Place × List ℕ)) (w : Work) where
+    (is_new : offer_answer env.epoch (p.nodes n).row ≡ adopt.New) (unrefused : is_this_epoch env.epoch (p.nodes n).beside.refused ≡ false)
+        (before : List (Place × List ℕ)) (w : Work) where
   abbrev q : NodePart
   q = p.nodes n
 
@@ -80,7 +88,11 @@ module _ (files : FilesAt) (p : Part) (st : Station) (n : ℕ) (env : NodeEnv) (
   put o = with_node p n (kept_after env q w o)
 
   was : post_of files st.client (seat_of p) ≡ OnOffer n env.epoch
-  was = ap (post_of files st.client) (seat-with p n env.epoch false row front with_ ∙ (new-row n env.epoch at q q.row is_new).0)
+  was = ap (post_of files st.client) (seat-with p n env.epoch false row front with_ ∙ (new-row n env.epoch at q q.row unrefused is_new).0)
+
+  over-apart : (o : Option ℕ) → post_of files st.client (seats.seat_over_by false n env.epoch o) ≡ OnOffer n env.epoch → ⊥
+  over-apart None f = cc
+  over-apart (Some served) f = cc
 
   -- then it is somewhere else
   pub new-moves : spot_of files (with_node p n (node_rests env q before w).0) st ≡ spot_of files p st → ⊥
@@ -92,8 +104,8 @@ module _ (files : FilesAt) (p : Part) (st : Station) (n : ℕ) (env : NodeEnv) (
       let bad : AtNode false n env.epoch (ends_of st.client d) (awaits_of files (seats.staying_of after)) ≡ OnOffer n env.epoch = sym now ∙ post in cc)
       (λ last post.
       let after = kept_after env q w (ending.Over last) in
-      let now = ap (post_of files st.client) (seat-put p n env.epoch false row after front with_ ∙ away-ended false n env.epoch at after refl) in
-      let bad : Left false n env.epoch ≡ OnOffer n env.epoch = sym now ∙ post in cc)
+      let now = ap (post_of files st.client) (seat-put p n env.epoch false row after front with_ ∙ away-over false n env.epoch at after refl) in
+      over-apart after.beside.returned (sym now ∙ post))
       (sym (post-is files (put (serving_settled env.serve w.service).0) st) ∙ ap (λ (s : Spot). s.post) same ∙ post-is files p st ∙ was)
 
 -- ---- the rule
@@ -113,7 +125,7 @@ module _ (k : Setting) (w : Whole) (x : Conn) (n epoch : ℕ) (env : NodeEnv) (o
   met given st d near =
       let t = spot_of k.files x.part st in
       let h : NearTold t x.c (suc d) n epoch (body.Offer parts) = subst (OfMessage (λ (m : Message). NearTold t x.c (suc d) n m.epoch.0 m.body)) spells near in
-      offer-met k.files x.part st n epoch given.fresh d h
+      offer-met k.files x.part st n epoch given.fresh given.unrefused d h
 
   answer-is : offer_answer epoch qq.row ≡ offer_answer env.epoch qq.row
   answer-is = ap (λ (e : ℕ). offer_answer e qq.row) (sym of.epoch_is)
@@ -154,8 +166,9 @@ module _ (k : Setting) (w : Whole) (x : Conn) (n epoch : ℕ) (env : NodeEnv) (o
     go : (a : Adopt) → offer_answer env.epoch qq.row ≡ a → Offers (offered_by env parts qq a)
     go adopt.New is = does-owes k w x n Front bytes was_sent (λ given. given.opened n bytes was_sent) (node_rests env qq (taken_sent env) (taking env parts)) (λ given after warm late st st_is c_is up same.
         let h = given.news n epoch parts bytes spells was_sent (answer-is ∙ is) in
+        let unrefused : is_this_epoch env.epoch qq.beside.refused ≡ false = ap (λ (e : ℕ). is_this_epoch e qq.beside.refused) of.epoch_is ∙ h.3 in
         let stage_is : IsWith false n env.epoch h.0.stage = h.2 ∙ ap (λ (e : ℕ). stage.Offering n (record { 0 = e })) (sym of.epoch_is) in
-        absurd (new-moves k.files x.part st n env h.0 h.1 stage_is is (taken_sent env) (taking env parts) same))
+        absurd (new-moves k.files x.part st n env h.0 h.1 stage_is is unrefused (taken_sent env) (taking env parts) same))
     go adopt.Again is = again-owes is
     go adopt.Stale is = passed adopt.Stale (λ bad. cc) (λ bad. cc) is
     go adopt.Refuse is = passed adopt.Refuse (λ bad. cc) (λ bad. cc) is

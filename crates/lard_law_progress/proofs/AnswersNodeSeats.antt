@@ -1,10 +1,11 @@
 -- Where the spot says that a node has the connection, or decided about its Offer, by what the front end and the node keep.
 use Rattle.std.proofs.Common.{◌≡◌, ◌==◌, ◌⊎◌, ℕ, Bool, true, false, cond, Option, Some, None, inl, inr, refl, sym, ap, ◌∙◌, subst, arith}
-use Rattle.std.proofs.lemmas.Bool.{cond-true, eqb-true}
+use Rattle.std.proofs.lemmas.Bool.{cond-true, cond_both, eqb-true}
 use Rattle.std.proofs.lemmas.Bool.Decides.{nat_tests}
-use Rattle.lard_bound.specs.Seats.{Gone, Here, Offered, SeatNow, seat_by, seat_decided, seat_in, seat_of, seat_there, staying_of}
+use Rattle.lard_bound.specs.Seats.{Gone, Here, Offered, Refused, Returned, SeatNow, seat_by, seat_decided, seat_in, seat_of, seat_over_by, seat_there, seat_untaken, staying_of}
 use Rattle.lard_law_view.specs.Prelude.{BackConn, BackRow, ControlBlock, FrontConn, FrontRow, NodePart, Part, Stay, both_of, front_rest, here, staying}
 use Rattle.lard_handoff_back.specs.declared.row.BackConn.TheVariants as back
+use Rattle.lard_handoff_back.specs.Leaving.{is_this_epoch}
 use Rattle.lard_handoff_front.specs.declared.row.FrontConn.TheVariants as stage
 use Rattle.lard_law_progress.proofs.Away.{IsWith, away-here, seat-with}
 
@@ -30,24 +31,32 @@ IsOpen e (Some row) = ((row.epoch.0 == e) ≡ false) ⊎ (row.stage ≡ back.Out
 abbrev pub Sits : Part → SeatNow → Type 0
 Sits p (Here told n e b s) = IsHere p told n e b × (s ≡ staying_of (p.nodes n))
 Sits p (Gone told n e) = IsDone p n e
+Sits p (Returned told n e served) = IsDone p n e
 Sits p (Offered n e count) = IsOpen e (p.nodes n).row
 Sits p _ = Unit {0}
 
 module _ (p : Part) (front : FrontRow) (row : p.front.row ≡ Some front) (told : Bool) (n e count : ℕ) (with_ : IsWith told n e front.stage) where
+  over-sits : IsDone p n e → (o : Option ℕ) → Sits p (seat_over_by told n e o)
+  over-sits done None = done
+  over-sits done (Some served) = done
+
   there-sits : (r : BackRow) (s : BackConn) → (p.nodes n).row ≡ Some r → r.stage ≡ s → (r.epoch.0 == e) ≡ true → Sits p (seat_there told n e count (p.nodes n) s)
   there-sits r (back.Here b) is stage_is same =
       let e_is : r.epoch.0 ≡ e = eqb-true r.epoch.0 e same in
       (record { front = front; row = row; with_ = with_; there = is ∙ λ i. Some (record { stage = stage_is i; epoch = record { 0 = e_is i } }) }, refl)
   there-sits r back.Out is stage_is same = subst (IsOpen e) (sym is) (inr stage_is)
-  there-sits r back.Ended is stage_is same = record { row = r; there = is; epoch = eqb-true r.epoch.0 e same }
-  there-sits r back.Gone is stage_is same = record { row = r; there = is; epoch = eqb-true r.epoch.0 e same }
+  there-sits r back.Ended is stage_is same = over-sits (record { row = r; there = is; epoch = eqb-true r.epoch.0 e same }) (p.nodes n).beside.returned
+  there-sits r back.Gone is stage_is same = over-sits (record { row = r; there = is; epoch = eqb-true r.epoch.0 e same }) (p.nodes n).beside.returned
+
+  untaken-sits : IsOpen e (p.nodes n).row → Sits p (seat_untaken n e count (p.nodes n))
+  untaken-sits open_ = cond_both (is_this_epoch e (p.nodes n).beside.refused) (Refused n e count) (Offered n e count) (Sits p) (λ t. tt) (λ t. open_)
 
   decided-sits : (o : Option BackRow) → (p.nodes n).row ≡ o → Sits p (seat_decided told n e count (p.nodes n) o)
-  decided-sits None is = subst (IsOpen e) (sym is) tt
+  decided-sits None is = untaken-sits (subst (IsOpen e) (sym is) tt)
   decided-sits (Some r) is = go (r.epoch.0 == e) refl where
-    go : (b : Bool) → (r.epoch.0 == e) ≡ b → Sits p (cond b (seat_there told n e count (p.nodes n) r.stage) (Offered n e count))
+    go : (b : Bool) → (r.epoch.0 == e) ≡ b → Sits p (cond b (seat_there told n e count (p.nodes n) r.stage) (seat_untaken n e count (p.nodes n)))
     go true same = there-sits r r.stage is refl same
-    go false other = subst (IsOpen e) (sym is) (inl other)
+    go false other = untaken-sits (subst (IsOpen e) (sym is) (inl other))
 
 pub seat-sits : (p : Part) → Sits p (seat_of p)
 unfolding seat_of

@@ -5,11 +5,11 @@ use Rattle.std.specs.List.{find}
 use Rattle.std.proofs.lemmas.List.{append-nil}
 use Rattle.lard_law_view.specs.Prelude.{Asked, ClientBlock, ControlBlock, Ending, FilesAt, Final, Kept, NodeEnv, NodePart, Part, Place, Station, Stay, Want, Work, asked_kept, asked_sent, came_for, come_progress, ended_sent, front_rest, goes_on, is_under, kept_after, node_rests, serving_settled, speaks, tagged, wants_kept, wants_sent, with_node, without, work_of}
 use Rattle.lard_base.specs.declared.place.TimerKind.TheVariants as kind
-use Rattle.lard_bound.specs.Seats.{Here, seat_of, stay_of, staying_of}
-use Rattle.lard_bound.specs.Spots.{AtNode, Awaits, EndpointSymbols, Left, Post, Spot, awaits_of, ends_of, post_of, spot_of}
+use Rattle.lard_bound.specs.Seats.{Here, seat_of, seat_over_by, stay_of, staying_of}
+use Rattle.lard_bound.specs.Spots.{AtNode, Awaits, EndpointSymbols, Post, Spot, awaits_of, ends_of, post_of, spot_of}
 use Rattle.lard_law_progress.proofs.AnswersNodeAsks.{Asks, goes-asks}
 use Rattle.lard_law_progress.proofs.AnswersNodeSeats.{IsHere, here-seat}
-use Rattle.lard_law_progress.proofs.Away.{away-ended, away-here, by-ending, seat-put}
+use Rattle.lard_law_progress.proofs.Away.{away-here, away-over, by-ending, seat-put}
 use Rattle.lard_law_progress.proofs.Coming.{came-on, content-comes, tagged-on, without-fewer}
 use Rattle.lard_rules.specs.declared.places.Ending.TheVariants as ending
 
@@ -55,10 +55,16 @@ module _ (files : FilesAt) (p : Part) (st : Station) (told : Bool) (n : ℕ) (b 
         let after = kept_after env pp w (ending.Here d count) in
         ap (post_of files x) (seat-put p n env.epoch told h.front after h.row h.with_ ∙ away-here told n env.epoch (front_rest p.front.rest).count after d refl)
 
-    over-post : (last : Final) → post_of files x (seat_of (put (ending.Over last))) ≡ Left told n env.epoch
-    over-post last =
+    over-post : (last : Final) → IsPost (post_of files x (seat_of (put (ending.Over last)))) → ⊥
+    over-post last post =
         let after = kept_after env pp w (ending.Over last) in
-        ap (post_of files x) (seat-put p n env.epoch told h.front after h.row h.with_ ∙ away-ended told n env.epoch (front_rest p.front.rest).count after refl)
+        over-apart told n env.epoch after.beside.returned
+        (sym (ap (post_of files x) (seat-put p n env.epoch told h.front after h.row h.with_
+            ∙ away-over told n env.epoch (front_rest p.front.rest).count after refl)) ∙ post)
+      where
+        over-apart : (t : Bool) (m e : ℕ) (o : Option ℕ) → IsPost (post_of files x (seat_over_by t m e o)) → ⊥
+        over-apart t m e None f = cc
+        over-apart t m e (Some served) f = cc
 
     pub still : spot_of files (with_node p n (node_rests env pp before w).0) st ≡ spot_of files p st → Still
     still same =
@@ -70,7 +76,7 @@ module _ (files : FilesAt) (p : Part) (st : Station) (told : Bool) (n : ℕ) (b 
         let d = left_here in
         let both = sym (here-post d w.service.count) ∙ post in
         record { none = none; ends_here = is; ends = ap (ends_or (ends_of x d)) both; awaits = ap (awaits_or (awaits_of files (staying_of (kept_after env pp w (ending.Here d w.service.count))))) both })
-        (λ last is post. absurd (let bad : Left told n env.epoch ≡ AtNode told n env.epoch (ends_of x b) (awaits_of files (staying_of q)) = sym (over-post last) ∙ post in cc))
+        (λ last is post. absurd (over-post last post))
         refl now
 
     -- where it sits then

@@ -3,7 +3,7 @@ use Rattle.std.proofs.Common.{◌≡◌, ◌⊎◌, ◌<◌, ◌≤◌, ◌+◌,
 use Rattle.std.proofs.lemmas.Bool.{cond_both, cond-true, eqb-true}
 use Rattle.std.proofs.lemmas.Bool.Decides.{nat_tests}
 use Rattle.lard_law_view.specs.Prelude.{BackRow, ClientBlock, ControlBlock, Ending, FilesAt, Final, FrontConn, FrontRow, Kept, NodeEnv, NodePart, Part, Phase, Place, ServeEnv, Service, Station, Stay, Work, asked_kept, awaited, front_rest, kept_after, named_paths, node_put_back, node_rests, one_if, serving_settled, speaks, symbols, wants_kept, with_node}
-use Rattle.lard_bound.specs.Seats.{Gone, Here, Offered, SeatNow, Staying, seat_away, seat_by, seat_decided, seat_in, seat_of, staying_of, tells_end}
+use Rattle.lard_bound.specs.Seats.{Gone, Here, SeatNow, Staying, seat_away, seat_by, seat_decided, seat_in, seat_of, seat_over, seat_over_by, seat_untaken, staying_of, tells_end}
 use Rattle.lard_bound.specs.Spots.{AtNode, number_awaited, ends_of, post_of, spot_of}
 use Rattle.lard_bound.specs.Units.{Whole, block_left, client_left, ended_left, heard_left, is_stale, left_with, one_if_not, requests_left, seat_left, stay_left, symbols_taken, tellers}
 use Rattle.lard_client.specs.declared.phase.Phase.TheVariants as phase
@@ -41,10 +41,17 @@ pub seat-put : (p : Part) (n e : ℕ) (told : Bool) (row : FrontRow) (q : NodePa
 seat-put p n e told row q front with_ = seat-with (with_node p n q) n e told row front with_ ∙ ap (seat_away told n e (front_rest p.front.rest).count) (put-there p.nodes n q)
 
 pub away-here : (told : Bool) (n e count : ℕ) (q : NodePart) (b : ControlBlock) → q.row ≡ Some (record { stage = back.Here b; epoch = record { 0 = e } }) → seat_away told n e count q ≡ Here told n e b (staying_of q)
-away-here told n e count q b is = ap (seat_decided told n e count q) is ∙ cond-true (e == e) (Here told n e b (staying_of q)) (Offered n e count) (self e)
+away-here told n e count q b is = ap (seat_decided told n e count q) is ∙ cond-true (e == e) (Here told n e b (staying_of q)) (seat_untaken n e count q)
+    (self e)
 
-pub away-ended : (told : Bool) (n e count : ℕ) (q : NodePart) → q.row ≡ Some (record { stage = back.Ended; epoch = record { 0 = e } }) → seat_away told n e count q ≡ Gone told n e
-away-ended told n e count q is = ap (seat_decided told n e count q) is ∙ cond-true (e == e) (Gone told n e) (Offered n e count) (self e)
+pub away-over : (told : Bool) (n e count : ℕ) (q : NodePart) → q.row ≡ Some (record { stage = back.Ended; epoch = record { 0 = e } })
+    → seat_away told n e count q ≡ seat_over told n e q
+away-over told n e count q is = ap (seat_decided told n e count q) is ∙ cond-true (e == e) (seat_over told n e q) (seat_untaken n e count q) (self e)
+
+-- one that was not given back
+pub away-ended : (told : Bool) (n e count : ℕ) (q : NodePart) → q.row ≡ Some (record { stage = back.Ended; epoch = record { 0 = e } })
+    → q.beside.returned ≡ None → seat_away told n e count q ≡ Gone told n e
+away-ended told n e count q is none = away-over told n e count q is ∙ ap (seat_over_by told n e) none
 
 -- the row of a connection that a rule finds here
 pub here-row : (e : ℕ) (q : NodePart) (b : ControlBlock) (s : Stay) → IsHereWith e q b s
@@ -140,10 +147,11 @@ module _ (k : Whole) (K : ℕ) (files : FilesAt) (p : Part) (st : Station) (n : 
   ended-less phase.Reset = omega arith
 
   -- it ended: a unit goes
-  ends-less : (q : NodePart) → q.row ≡ Some (record { stage = back.Ended; epoch = record { 0 = env.epoch } }) → IsLess (with_node p n q)
-  ends-less q is =
+  ends-less : (q : NodePart) → q.row ≡ Some (record { stage = back.Ended; epoch = record { 0 = env.epoch } }) → q.beside.returned ≡ None
+      → IsLess (with_node p n q)
+  ends-less q is none =
       let p' = with_node p n q in
-      let seat : seat_of p' ≡ Gone told n env.epoch = seat-put p n env.epoch told row q front with_ ∙ away-ended told n env.epoch at q is in
+      let seat : seat_of p' ≡ Gone told n env.epoch = seat-put p n env.epoch told row q front with_ ∙ away-ended told n env.epoch at q is none in
       let now : left_with k K p' st ≡ left_by (Gone told n env.epoch) (tellers p'.nodes K) = ap (λ (z : SeatNow). left_by z (tellers p'.nodes K)) seat in
       let more = tellers-put p.nodes n q K in
       let one = tells-one q in
@@ -231,9 +239,10 @@ module _ (k : Whole) (K : ℕ) (files : FilesAt) (p : Part) (st : Station) (n : 
         }
 
     -- and the whole turn
-    pub turn-less : (before : List (Place × List ℕ)) (pp : NodePart) → pp.kept ≡ kept → pp.fetches ≡ fetches → ((d : ControlBlock) (count : ℕ) → (serving_settled env.serve w.service).0 ≡ ending.Here d count → Fits d w)
+    pub turn-less : (before : List (Place × List ℕ)) (pp : NodePart) → pp.kept ≡ kept → pp.fetches ≡ fetches → pp.beside.returned ≡ None
+        → ((d : ControlBlock) (count : ℕ) → (serving_settled env.serve w.service).0 ≡ ending.Here d count → Fits d w)
         → IsLess (with_node p n (node_rests env pp before w).0)
-    turn-less before pp ks fs fits =
+    turn-less before pp ks fs unreturned fits =
         let E : Ending → Type 0 = λ o. ((d : ControlBlock) (count : ℕ) → o ≡ ending.Here d count → Fits d w) → IsLess (with_node p n (kept_after env pp w o)) in
         by-ending env.serve w.service E
         (λ none fit. let d = (speaks env.serve.c w.service.block).1 in subst (λ (ks' : List Kept). IsLess (with_node p n (record {
@@ -249,5 +258,5 @@ module _ (k : Whole) (K : ℕ) (files : FilesAt) (p : Part) (st : Station) (n : 
           fetches = wants_kept env w.wants fs';
           beside = pp.beside;
         }))) (sym fs) (stays-less pp.beside d (speaks-said env.serve.c w.service.block) none (fit d w.service.count refl))))
-        (λ last fit. ends-less (kept_after env pp w (ending.Over last)) refl)
+        (λ last fit. ends-less (kept_after env pp w (ending.Over last)) refl unreturned)
         fits

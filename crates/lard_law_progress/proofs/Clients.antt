@@ -2,7 +2,7 @@
 use Rattle.std.proofs.Common.{Bool, ap, arith, cond, false, inl, inr, refl, subst, sym, true, ℕ, ◌+◌, ◌==◌, ◌∙◌, ◌≡◌, ◌≤◌, ◌⊎◌}
 use Rattle.std.proofs.lemmas.Bool.Decides.{nat_tests}
 use Rattle.lard_law_view.specs.Prelude.{ClientBlock, FilesAt, Part, Phase, Said, Sending, Station, after_next, after_resend, client_after_emit, client_after_timer, client_arrived, client_speaks, client_told, one_if, symbols, with_station}
-use Rattle.lard_bound.specs.Seats.{Gone, Held, Here, Offered, Over, SeatNow, Unborn, Waiting, seat_of, tells_end}
+use Rattle.lard_bound.specs.Seats.{Gone, Held, Here, Offered, Over, Refused, Returned, SeatNow, Unborn, Waiting, seat_of, tells_end}
 use Rattle.lard_bound.specs.Spots.{AtFront, AtNode, Ended, number_awaited, awaits_of, post_of, spot_of}
 use Rattle.lard_bound.specs.Units.{Whole, client_left, ended_left, hand_off, heard_left, left_with, one_if_not, requests_left, seat_left, spoken_left, symbols_taken, tellers}
 use Rattle.lard_client.specs.declared.phase.Phase.TheVariants.{Open, Aborted, Reset}
@@ -213,6 +213,8 @@ module _ (k : Whole) (K : ℕ) (files : FilesAt) (p : Part) (st : Station) (y : 
   heard-less (Held b count) = omega arith
   heard-less (Waiting b count) = omega arith
   heard-less (Offered n e count) = let m = more in omega (arith, m)
+  heard-less (Refused n e count) = let m = more in omega (arith, m)
+  heard-less (Returned told n e served) = let m = more in omega (arith, m)
   heard-less (Here told n e b s) = omega arith
   heard-less (Gone told n e) = ended-less x.phase y.phase turned.takes.phase
   heard-less (Over last) = ended-less x.phase y.phase turned.takes.phase
@@ -265,6 +267,8 @@ module _ (k : Whole) (K : ℕ) (files : FilesAt) (p : Part) (st : Station) (y : 
   post-same (Held b count) ph up = ap (λ (q : Phase). AtFront (record { una = b.send.una; symbols = symbols b.send; awaited = number_awaited b q })) ph
   post-same (Waiting b count) ph up = refl
   post-same (Offered n e count) ph up = refl
+  post-same (Refused n e count) ph up = refl
+  post-same (Returned told n e served) ph up = refl
   post-same (Here told n e b s) ph up = ap (λ (q : Phase). AtNode told n e (record { una = b.send.una; symbols = symbols b.send; awaited = number_awaited b q }) (awaits_of files s)) ph
   post-same (Gone told n e) ph up = refl
   post-same (Over last) ph up = ap (Ended last) (taken-same x.phase refl (let same : ended_left k y y.phase ≡ ended_left k y x.phase = ap (ended_left k y) ph in omega (arith, up, same)))

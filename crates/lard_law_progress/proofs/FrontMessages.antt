@@ -2,13 +2,13 @@
 use Rattle.std.proofs.Common.{◌≡◌, ◌==◌, ℕ, Bool, true, false, cond, Option, Some, None, refl, sym, ap, ◌∙◌}
 use Rattle.lard_law_view.specs.Prelude.{Ask, BackConn, BackRow, Epoch, FilesAt, Final, FrontDeed, FrontEnv, FrontPart, FrontRest, FrontRow, NodePart, Part, Station, assigns, ended_row, front_ends, front_rest, next_epoch, taken_by, with_front, without}
 use Rattle.lard_base.specs.declared.place.TimerKind.TheVariants as kind
-use Rattle.lard_bound.specs.Seats.{Offered, seat_away, seat_decided, seat_of, seat_there, staying_of}
+use Rattle.lard_bound.specs.Seats.{seat_away, seat_decided, seat_of, seat_over_by, seat_there, seat_untaken, staying_of}
 use Rattle.lard_bound.specs.Units.{Whole}
 use Rattle.lard_rules.specs.Front.{Does}
 use Rattle.lard_handoff_back.specs.declared.row.BackConn.TheVariants as back
 use Rattle.lard_handoff_front.specs.declared.row.FrontConn.TheVariants as stage
 use Rattle.lard_law_progress.proofs.Given.{IsGone}
-use Rattle.lard_law_progress.proofs.Handing.{ended-over, taken-gone, taken-here}
+use Rattle.lard_law_progress.proofs.Handing.{ended-over, taken-back, taken-gone, taken-here}
 use Rattle.lard_law_progress.proofs.Less.{Lasting}
 use Rattle.lard_law_progress.proofs.Seating.{FrontLasts, front-stays, seat-at, seat-counts}
 
@@ -21,14 +21,19 @@ module _ (w : Whole) (K : ℕ) (files : FilesAt) (p : Part) (st : Station) where
 
   -- ---- its node took it: that goes, where the node decided; else it is where it was
 
+  flips-over : (f : FrontPart) (n e : ℕ) (o : Option ℕ) → seat_of p ≡ seat_over_by false n e o → seat_of (with_front p f) ≡ seat_over_by true n e o → To f
+  flips-over f n e None was now = taken-gone w K files p st f n e was now
+  flips-over f n e (Some served) was now = taken-back w K files p st f n e served was now
+
   flips-there : (f : FrontPart) (n e count : ℕ) (q : NodePart) (s : BackConn) → seat_of p ≡ seat_there false n e count q s → seat_of (with_front p f) ≡ seat_there true n e count q s → To f
   flips-there f n e count q (back.Here b) was now = taken-here w K files p st f n e b (staying_of q) was now
   flips-there f n e count q back.Out was now = front-stays w K files p st f (now ∙ sym was)
-  flips-there f n e count q back.Ended was now = taken-gone w K files p st f n e was now
-  flips-there f n e count q back.Gone was now = taken-gone w K files p st f n e was now
+  flips-there f n e count q back.Ended was now = flips-over f n e q.beside.returned was now
+  flips-there f n e count q back.Gone was now = flips-over f n e q.beside.returned was now
 
-  flips-by : (f : FrontPart) (n e count : ℕ) (q : NodePart) (s : BackConn) (b : Bool) → seat_of p ≡ cond b (seat_there false n e count q s) (Offered n e count)
-      → seat_of (with_front p f) ≡ cond b (seat_there true n e count q s) (Offered n e count) → To f
+  flips-by : (f : FrontPart) (n e count : ℕ) (q : NodePart) (s : BackConn) (b : Bool)
+      → seat_of p ≡ cond b (seat_there false n e count q s) (seat_untaken n e count q)
+      → seat_of (with_front p f) ≡ cond b (seat_there true n e count q s) (seat_untaken n e count q) → To f
   flips-by f n e count q s true was now = flips-there f n e count q s was now
   flips-by f n e count q s false was now = front-stays w K files p st f (now ∙ sym was)
 

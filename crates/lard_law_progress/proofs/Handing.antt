@@ -1,16 +1,17 @@
 -- A connection begins, waits, goes to a node, and comes back: in each of these steps a unit goes.
-use Rattle.std.proofs.Common.{◌≡◌, ◌<◌, ◌≤◌, ◌+◌, ◌*◌, ◌==◌, ℕ, zero, suc, Bool, true, false, cond, List, [], Some, None, refl, sym, ap, ◌∙◌, subst, arith}
+use Rattle.std.proofs.Common.{◌≡◌, ◌<◌, ◌≤◌, ◌+◌, ◌-◌, ◌*◌, ◌==◌, ℕ, zero, suc, Bool, true, false, cond, List, [], Option, Some, None, refl, sym, ap, ◌∙◌, subst, arith}
 use Rattle.std.proofs.lemmas.Bool.{eqb-true}
 use Rattle.std.proofs.lemmas.Bool.Decides.{nat_tests}
-use Rattle.lard_law_view.specs.Prelude.{ClientBlock, ControlBlock, Ending, FilesAt, Final, FrontPart, FrontRow, Kept, NodeEnv, NodePart, Part, Phase, Place, Station, Work, asked_kept, front_rest, kept_after, node_put_back, node_rests, speaks, symbols, wants_kept, with_front, with_node}
-use Rattle.lard_bound.specs.Seats.{Gone, Held, Here, Offered, Over, SeatNow, Staying, Unborn, Waiting, seat_of, staying_of, tells_end}
+use Rattle.lard_law_view.specs.Prelude.{ClientBlock, ControlBlock, Ending, EndpointParts, FilesAt, Final, FrontPart, FrontRow, Kept, NodeEnv, NodePart, Part, Phase, Place, Station, Work, asked_kept, front_rest, kept_after, node_put_back, node_rests, speaks, symbols, wants_kept, with_front, with_node}
+use Rattle.lard_bound.specs.Seats.{Gone, Held, Here, Offered, Over, Refused, Returned, SeatNow, Staying, Unborn, Waiting, seat_of, staying_of, tells_end}
 use Rattle.lard_bound.specs.Spots.{post_of, spot_of}
-use Rattle.lard_bound.specs.Units.{Whole, block_left, ended_left, is_stale, left_with, one_if_not, symbols_taken, tellers, untaken}
+use Rattle.lard_bound.specs.Units.{Whole, block_left, ended_left, hand_off, heard_left, is_stale, left_with, one_if_not, requests_left, seat_left, symbols_taken, tellers, untaken}
 use Rattle.lard_client.specs.declared.phase.Phase.TheVariants as phase
 use Rattle.lard_handoff_back.specs.declared.row.BackConn.TheVariants as back
 use Rattle.lard_handoff_back.specs.Table.{Beside}
 use Rattle.lard_law_progress.proofs.Away.{IsWith, away-ended, away-here, by-ending, not-less, seat-put, stay-less, tellers-put, tellers-same, tells, tells-one}
 use Rattle.lard_law_progress.proofs.Ends.{IsSaid, speaks-said}
+use Rattle.lard_law_progress.proofs.Given.{IsFrom}
 use Rattle.lard_law_progress.proofs.Less.{Lasting, falls, left_by}
 use Rattle.lard_law_progress.proofs.Stays.{cost, read_of}
 use Rattle.lard_rules.specs.declared.places.Ending.TheVariants as ending
@@ -81,9 +82,11 @@ module _ (k : Whole) (K : ℕ) (files : FilesAt) (p : Part) (st : Station) where
     abbrev count : ℕ
     count = (front_rest p.front.rest).count
 
-    pub over-there : (q : NodePart) → q.row ≡ Some (record { stage = back.Ended; epoch = record { 0 = env.epoch } }) → To (with_node p n q)
-    over-there q is =
-        let seat : seat_of (with_node p n q) ≡ Gone false n env.epoch = seat-put p n env.epoch false row q front with_ ∙ away-ended false n env.epoch count q is in
+    pub over-there : (q : NodePart) → q.row ≡ Some (record { stage = back.Ended; epoch = record { 0 = env.epoch } }) → q.beside.returned ≡ None
+        → To (with_node p n q)
+    over-there q is none =
+        let seat : seat_of (with_node p n q) ≡ Gone false n env.epoch = seat-put p n env.epoch false row q front with_
+            ∙ away-ended false n env.epoch count q is none in
         let e = ended-untaken x.phase in let more = tellers-put p.nodes n q K in let one = tells-one q in
         falls k K files p (with_node p n q) st (Offered n env.epoch count) (Gone false n env.epoch) offered seat (omega (arith, e, more, one))
 
@@ -119,8 +122,9 @@ module _ (k : Whole) (K : ℕ) (files : FilesAt) (p : Part) (st : Station) where
         let r = stay-less k count (read_of w) 0 (cost env [] [] w) a.more (a.few none) c in
         falls k K files p (with_node p n q) st (Offered n env.epoch count) (Here false n env.epoch d (staying_of q)) offered seat (omega (arith, same, u, t, s, g, r))
 
-    pub adopted-less : (before : List (Place × List ℕ)) (pp : NodePart) (w : Work) → pp.kept ≡ [] → pp.fetches ≡ [] → Adopts w → To (with_node p n (node_rests env pp before w).0)
-    adopted-less before pp w ks fs a =
+    pub adopted-less : (before : List (Place × List ℕ)) (pp : NodePart) (w : Work) → pp.kept ≡ [] → pp.fetches ≡ [] → pp.beside.returned ≡ None → Adopts w
+        → To (with_node p n (node_rests env pp before w).0)
+    adopted-less before pp w ks fs unreturned a =
         by-ending env.serve w.service (λ (o : Ending). To (with_node p n (kept_after env pp w o)))
         (λ none. let d = (speaks env.serve.c w.service.block).1 in subst (λ (ks' : List Kept). To (with_node p n (record {
           row = Some (record { stage = back.Here d; epoch = record { 0 = env.epoch } });
@@ -135,7 +139,7 @@ module _ (k : Whole) (K : ℕ) (files : FilesAt) (p : Part) (st : Station) where
           fetches = wants_kept env w.wants fs';
           beside = pp.beside;
         }))) (sym fs) (here-less pp.beside w d a (speaks-said env.serve.c w.service.block) none)))
-        (λ last. over-there (kept_after env pp w (ending.Over last)) refl)
+        (λ last. over-there (kept_after env pp w (ending.Over last)) refl unreturned)
 
   -- ---- the front end hears that it was taken
 
@@ -145,9 +149,56 @@ module _ (k : Whole) (K : ℕ) (files : FilesAt) (p : Part) (st : Station) where
   pub taken-gone : (f : FrontPart) (n e : ℕ) → seat_of p ≡ Gone false n e → seat_of (with_front p f) ≡ Gone true n e → To (with_front p f)
   taken-gone f n e was now = falls k K files p (with_front p f) st (Gone false n e) (Gone true n e) was now (omega arith)
 
+  pub taken-back : (f : FrontPart) (n e served : ℕ) → seat_of p ≡ Returned false n e served → seat_of (with_front p f) ≡ Returned true n e served
+      → To (with_front p f)
+  taken-back f n e served was now = falls k K files p (with_front p f) st (Returned false n e served) (Returned true n e served) was now (omega arith)
+
   -- and that it ended
   pub ended-over : (f : FrontPart) (told : Bool) (n e : ℕ) (last : Final) → seat_of p ≡ Gone told n e → seat_of (with_front p f) ≡ Over last → To (with_front p f)
   ended-over f told n e last was now = falls k K files p (with_front p f) st (Gone told n e) (Over last) was now (omega arith)
+
+  -- ---- it comes back from a node
+
+  seven : (n : ℕ) → hand_off n ≤ 7
+  seven zero = omega arith
+  seven (suc n) = omega arith
+
+  fewer-left : (n c m : ℕ) → c ≤ m → 4 * (n - m) ≤ 4 * (n - c)
+  fewer-left n c m e = omega arith
+
+  module _ (given : Option EndpointParts) (n e served : ℕ) (from : IsFrom given n e served (seat_of p)) where
+    -- so much is left that it may be placed anew
+    back-left : (z : SeatNow) → IsFrom given n e served z → (t : ℕ)
+        → untaken k x + 11 + t + 4 * (k.requests - served) ≤ heard_left k x z + (seat_left k x z + t) + requests_left k z
+    back-left (Refused m d count) h t = let c = fewer-left k.requests count served h.3 in omega (arith, c)
+    back-left (Returned told m d count) h t = let c = fewer-left k.requests count served h.3 in omega (arith, c)
+    back-left _ h t = absurd h
+
+    abbrev left : untaken k x + 11 + tellers p.nodes K + 4 * (k.requests - served) ≤ heard_left k x (seat_of p) +
+        (seat_left k x (seat_of p) + tellers p.nodes K) + requests_left k (seat_of p)
+    left = back-left (seat_of p) from (tellers p.nodes K)
+
+    pub back-held : (f : FrontPart) (d : ControlBlock) (more : ℕ) → seat_of (with_front p f) ≡ Held d more → symbols_taken x ≤ d.send.una → served ≤ more
+        → To (with_front p f)
+    back-held f d more now una up =
+        let l = left in let h = seven k.requests in let s = stale-one x d in let g = flag-one d.send.finished in let c = fewer-left k.requests served more up in
+        falls k K files p (with_front p f) st (seat_of p) (Held d more) refl now (omega (arith, l, h, s, g, c, una))
+
+    pub back-waits : (f : FrontPart) (d : ControlBlock) (more : ℕ) → seat_of (with_front p f) ≡ Waiting d more → symbols_taken x ≤ d.send.una → served ≤ more
+        → To (with_front p f)
+    back-waits f d more now una up =
+        let l = left in let g = flag-one d.send.finished in let c = fewer-left k.requests served more up in
+        falls k K files p (with_front p f) st (seat_of p) (Waiting d more) refl now (omega (arith, l, g, c, una))
+
+    pub back-offered : (f : FrontPart) (m d more : ℕ) → seat_of (with_front p f) ≡ Offered m d more → served ≤ more → To (with_front p f)
+    back-offered f m d more now up =
+        let l = left in let c = fewer-left k.requests served more up in
+        falls k K files p (with_front p f) st (seat_of p) (Offered m d more) refl now (omega (arith, l, c))
+
+    pub back-over : (f : FrontPart) (last : Final) → seat_of (with_front p f) ≡ Over last → To (with_front p f)
+    back-over f last now =
+        let l = left in let e = ended-untaken x.phase in
+        falls k K files p (with_front p f) st (seat_of p) (Over last) refl now (omega (arith, l, e))
 
   -- ---- the node hears that its end is known
 

@@ -1,6 +1,6 @@
 -- Every step of which a settle's rounds are made: no unit of a connection comes back, and where none goes, its spot is as it was.
 use Rattle.std.proofs.Common.{◌≡◌, ℕ, List, Option, Some, None, Result, Ok, Err, refl, sym, ap, ◌∙◌, subst, arith}
-use Rattle.lard_law_view.specs.Prelude.{Client, ClientBlock, ClientFires, ClientGets, ClientReceives, ClientRules, Conn, EndedBy, Front, FrontEnv, FrontGets, FrontHears, FrontRules, IsConnSound, IsNodeEnv, Letter, MayRestOn, Message, Move, MsgFault, Node, NodeEnv, NodeRules, Rec, Rules, Said, Seen, SegFault, Setting, SpellsMessage, Station, ToClient, ToCluster, Turn, client_does, client_gets, client_timer, decoded, decoded_message, event_seen, front_does, front_rule, grown, node_does, node_rule, nothing_said, offer_answer, packet_seen, stands}
+use Rattle.lard_law_view.specs.Prelude.{Client, ClientBlock, ClientFires, ClientGets, ClientReceives, ClientRules, Conn, EndedBy, Front, FrontEnv, FrontGets, FrontHears, FrontRules, IsConnSound, IsNodeEnv, Letter, MayRestOn, Message, Move, MsgFault, Node, NodeEnv, NodeRules, Rec, ReturnedBy, Rules, Said, Seen, SegFault, Setting, SpellsMessage, Station, ToClient, ToCluster, Turn, client_does, client_gets, client_timer, decoded, decoded_message, event_seen, front_does, front_rule, grown, node_does, node_rule, nothing_said, offer_answer, packet_seen, stands}
 use Rattle.lard_law_view.proofs.EachClient.{ClientComes, client_goes, each-client}
 use Rattle.lard_bound.specs.Progress.{IfCame, IsWarm, IsWarmBy, IsWarmMessage, IsWarmSegment, Lasts, came_in, spot_with}
 use Rattle.lard_bound.specs.Units.{Whole, left_to_client, units}
@@ -113,6 +113,7 @@ module _ (k : Setting) (all : ℕ → Whole) where
       → (st : Station) → x.part.station ≡ Some st → IsAwaited (all x.c) k.nodes k.files x.part st g
   awaited x env heads (FrontHears bytes given) comes m came st at = subst (IsWarmSegment st.client) (sym comes.read) (warm-word x st bytes m.sound at (came-by x comes.seen came))
   awaited x env heads (EndedBy n epoch last) comes m came st at = (m.given st at).ends n epoch last.reason last.snd.0 last.rcv.0 comes.count comes.told.bytes comes.told.spells comes.told.was
+  awaited x env heads (ReturnedBy n epoch given) comes m came st at = (m.given st at).returns n epoch given comes.bytes comes.spells comes.was
   awaited x env heads _ comes m came st at = tt
 
   fronts : FrontRules k (Owed k all)
@@ -141,7 +142,8 @@ module _ (k : Setting) (all : ℕ → Whole) where
     does = λ x n epoch env heads g is in_its comes m after inner came. let d = node_rule env (x.part.nodes n) g in
         node-deed x n (job_notes x.c n g) heads d
         (λ st at. let known = m.given st at in
-        rule-lasts (all x.c) k.nodes k.files x.part st n env known.seat known.heard (known.homes n env.epoch) (known.there n) g in_its
+        rule-lasts (all x.c) k.nodes k.files x.part st n env known.seat known.heard (known.homes n env.epoch) (known.unreturned n env.epoch)
+            (known.there n) g in_its
         (expected x n epoch env heads g is comes m (came-by x (node-heads x n heads d) came) st at)) after;
     aside = λ x n a may m after inner came. idles k (all x.c) x (stands x (Node n) (aside_seen n a) (aside_said k n x.c a)) refl;
   })

@@ -48,6 +48,7 @@ pub mod AnswersFrontTold
 pub mod AnswersFrontAsked
 pub mod AnswersFrontAway
 pub mod AnswersFrontOver
+pub mod AnswersFrontReturned
 pub mod AnswersFrontWaiting
 pub mod AnswersFrontHeld
 pub mod AnswersFrontHolding

@@ -1,7 +1,7 @@
 -- How much is left to do at the most, and of all connections together.
 use Rattle.std.proofs.Common.{◌≡◌, ◌<◌, ◌≤◌, ◌+◌, ◌-◌, ◌*◌, ℕ, zero, suc, length, ⊎_elim, sym, subst, arith}
 use Rattle.std.proofs.lemmas.Bool.{cases_lt}
-use Rattle.lard_bound.specs.Seats.{Gone, Held, Here, Offered, Over, SeatNow, Staying, Unborn, Waiting, seat_of}
+use Rattle.lard_bound.specs.Seats.{Gone, Held, Here, Offered, Over, Refused, Returned, SeatNow, Staying, Unborn, Waiting, seat_of}
 use Rattle.lard_bound.specs.Units.{Whole, batch_left, ended_left, hand_off, heard_left, left_with, requests_left, seat_left, spoken_left, tellers, units, units_to}
 use Rattle.lard_law_view.specs.Prelude.{ClientBlock, Machine, Part, Phase, Station, conn}
 use Rattle.lard_client.specs.declared.phase.Phase.TheVariants as phase
@@ -10,8 +10,8 @@ use Rattle.lard_law_progress.proofs.Turns.{read_in}
 
 -- ---- one connection
 
--- What is known of a connection by where it is: how many nodes tell an end, that one which is handed off has a request, and what its
--- batch, its Ask and its Fetches are.
+-- What is known of a connection by where it is: how many nodes tell an end, that one which was handed off has a request, that one which is
+-- given back had a response, and what its batch, its Ask and its Fetches are.
 pub record IsModestStay (k : Whole) (s : Staying) : Type 0 where
   pub few : read_in s ≤ k.requests
   pub asks : length s.kept ≤ 1
@@ -22,7 +22,9 @@ IsModest k t Unborn = t ≡ 0
 IsModest k t (Held b count) = t ≡ 0
 IsModest k t (Waiting b count) = (t ≡ 0) × (1 ≤ k.requests)
 IsModest k t (Offered n e count) = (t ≡ 0) × (1 ≤ k.requests)
+IsModest k t (Refused n e count) = (t ≡ 0) × (1 ≤ k.requests)
 IsModest k t (Here told n e b s) = (t ≡ 0) × (1 ≤ k.requests) × IsModestStay k s
+IsModest k t (Returned told n e served) = (t ≤ 1) × (1 ≤ k.requests) × (1 ≤ served)
 IsModest k t (Gone told n e) = (t ≤ 1) × (1 ≤ k.requests)
 IsModest k t (Over last) = t ≤ 1
 
@@ -42,6 +44,8 @@ module _ (k : Whole) (x : ClientBlock) where
   heard-most (Held b count) = let f = flag-one b.send.finished in omega (arith, f)
   heard-most (Waiting b count) = let f = flag-one b.send.finished in omega (arith, f)
   heard-most (Offered n e count) = omega arith
+  heard-most (Refused n e count) = omega arith
+  heard-most (Returned told n e served) = omega arith
   heard-most (Here told n e b s) = let f = flag-one b.send.finished in omega (arith, f)
   heard-most (Gone told n e) = let h = ended-most x.phase in omega (arith, h)
   heard-most (Over last) = let h = ended-most x.phase in omega (arith, h)
@@ -59,10 +63,12 @@ module _ (k : Whole) (x : ClientBlock) where
   way-most t (Held b count) m = let h = hand-most k.requests in let s = stale-one x b in omega (arith, h, s, m)
   way-most t (Waiting b count) m = let a = m.0 in let r = m.1 in omega (arith, a, r)
   way-most t (Offered n e count) m = let a = m.0 in let r = m.1 in omega (arith, a, r)
+  way-most t (Refused n e count) m = let a = m.0 in let r = m.1 in omega (arith, a, r)
   way-most t (Here told n e b s) m =
       let a = m.0 in let r = m.1 in let v = stale-one x b in let f = flag-one told in
       let q = stay-most k.requests (read_in s) (length s.stay.batch) (batch_left s.stay.batch) (length s.kept) (length s.fetches) m.2.few (omega arith) m.2.fetches m.2.asks in
       omega (arith, a, r, v, f, q)
+  way-most t (Returned told n e served) m = let a = m.0 in let r = m.1 in let s = m.2 in let f = flag-one told in omega (arith, a, r, s, f)
   way-most t (Gone told n e) m = let a = m.0 in let f = flag-one told in omega (arith, a, f)
   way-most t (Over last) m = omega (arith, m)
 

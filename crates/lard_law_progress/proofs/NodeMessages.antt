@@ -1,14 +1,16 @@
 -- Each rule of a node, by what it comes to: nothing that is left to do comes back.
 use Rattle.std.proofs.Common.{◌≡◌, ◌≤◌, ◌+◌, ◌==◌, ◌&&◌, nat_lt, ℕ, Bool, true, false, cond, List, [], length, is_some, Option, Some, None, refl, sym, ap, ◌∙◌, subst, arith}
 use Rattle.std.specs.List.{find}
-use Rattle.std.proofs.lemmas.Bool.{and_parts, cond_both, eqb-true}
+use Rattle.std.proofs.lemmas.Bool.{and_parts, cond-false, cond_both, eqb-true}
 use Rattle.lard_law_view.specs.Prelude.{BackConn, BackRow, ClientBlock, ControlBlock, Ending, EndpointParts, FilesAt, FrontConn, FrontRow, NodeDeed, NodeEnv, NodeGets, NodePart, Part, Said, ServeEnv, Service, Station, Stay, Work, after_timer, awaits_ack, came_for, come_progress, front_rest, goes_on, gone, is_ended, is_from, is_gone, is_under, kept_after, node_fired_by, node_put_back, node_rule, node_saying, offer_answer, offered_by, on_segment, read_progress, serving_settled, speaks, tagged, with_node, with_work, without, work_of}
 use Rattle.lard_base.specs.declared.place.TimerKind.TheVariants as kind
 use Rattle.lard_bound.specs.Progress.{IsWarmSegment, IsWarmWord}
-use Rattle.lard_bound.specs.Seats.{Gone, Here, Offered, SeatNow, seat_away, seat_by, seat_decided, seat_in, seat_of, seat_there, stay_of, staying_of, telling, tells_end}
+use Rattle.lard_bound.specs.Seats.{Here, Offered, Refused, SeatNow, seat_away, seat_by, seat_decided, seat_in, seat_of, seat_over, seat_over_by, seat_there, seat_untaken, stay_of, staying_of, telling, tells_end}
 use Rattle.lard_bound.specs.Units.{Whole, symbols_taken}
 use Rattle.lard_handoff_back.specs.declared.row.BackConn.TheVariants as back
 use Rattle.lard_handoff_back.specs.declared.table.Adopt.TheVariants.{Again, New, Stale}
+use Rattle.lard_handoff_back.specs.Leaving.{is_this_epoch}
+use Rattle.lard_handoff_back.specs.Table.{Beside}
 use Rattle.lard_handoff_front.specs.declared.row.FrontConn.TheVariants as stage
 use Rattle.lard_rules.specs.Node as node
 use Rattle.lard_rules.specs.Node.{Does}
@@ -42,23 +44,31 @@ ended-tells : (s : BackConn) (e : ℕ) → is_ended s ≡ true → telling s e �
 ended-tells back.Ended e t = refl
 ended-tells _ e t = absurd (let bad : false ≡ true = t in cc)
 
-ended-there : (told : Bool) (n e count : ℕ) (q : NodePart) (s : BackConn) → is_ended s ≡ true → seat_there told n e count q s ≡ Gone told n e
+ended-there : (told : Bool) (n e count : ℕ) (q : NodePart) (s : BackConn) → is_ended s ≡ true → seat_there told n e count q s ≡ seat_over told n e q
 ended-there told n e count q back.Ended t = refl
 ended-there told n e count q _ t = absurd (let bad : false ≡ true = t in cc)
 
 -- an Offer that is new to its node was not decided, and the node tells no end
-pub new-row : (n e count : ℕ) (q : NodePart) (o : Option BackRow) → offer_answer e o ≡ New
+pub new-row : (n e count : ℕ) (q : NodePart) (o : Option BackRow) → is_this_epoch e q.beside.refused ≡ false → offer_answer e o ≡ New
     → (seat_decided false n e count q o ≡ Offered n e count) × (◌≡◌ {A = ℕ} (cond (is_some (tells_end o)) 1 0) 0)
-new-row n e count q None is = (refl, refl)
-new-row n e count q (Some r) is = go (r.epoch.0 == e) refl is where
-  left : (g : Bool) → (nat_lt r.epoch.0 e && is_gone r.stage) ≡ g → cond g New Stale ≡ New → is_gone r.stage ≡ true
-  left true t h = (and_parts (nat_lt r.epoch.0 e) (is_gone r.stage) t).1
-  left false t h = absurd (let bad : Stale ≡ New = h in cc)
+new-row n e count q o unrefused = by o where
+  untaken : seat_untaken n e count q ≡ Offered n e count
+  untaken = cond-false (is_this_epoch e q.beside.refused) (Refused n e count) (Offered n e count) unrefused
 
-  go : (b : Bool) → (r.epoch.0 == e) ≡ b → cond b Again (cond (nat_lt r.epoch.0 e && is_gone r.stage) New Stale) ≡ New
-      → (cond b (seat_there false n e count q r.stage) (Offered n e count) ≡ Offered n e count) × (◌≡◌ {A = ℕ} (cond (is_some (telling r.stage r.epoch.0)) 1 0) 0)
-  go true t h = absurd (let bad : Again ≡ New = h in cc)
-  go false t h = (refl, ap (λ (o : Option ℕ). cond {A = ℕ} (is_some o) 1 0) (gone-tells r.stage r.epoch.0 (left (nat_lt r.epoch.0 e && is_gone r.stage) refl h)))
+  by : (o : Option BackRow) → offer_answer e o ≡ New → (seat_decided false n e count q o ≡ Offered n e count)
+      × (◌≡◌ {A = ℕ} (cond (is_some (tells_end o)) 1 0) 0)
+  by None is = (untaken, refl)
+  by (Some r) is = go (r.epoch.0 == e) refl is where
+    left : (g : Bool) → (nat_lt r.epoch.0 e && is_gone r.stage) ≡ g → cond g New Stale ≡ New → is_gone r.stage ≡ true
+    left true t h = (and_parts (nat_lt r.epoch.0 e) (is_gone r.stage) t).1
+    left false t h = absurd (let bad : Stale ≡ New = h in cc)
+
+    go : (b : Bool) → (r.epoch.0 == e) ≡ b → cond b Again (cond (nat_lt r.epoch.0 e && is_gone r.stage) New Stale) ≡ New
+        → (cond b (seat_there false n e count q r.stage) (seat_untaken n e count q) ≡ Offered n e count)
+            × (◌≡◌ {A = ℕ} (cond (is_some (telling r.stage r.epoch.0)) 1 0) 0)
+    go true t h = absurd (let bad : Again ≡ New = h in cc)
+    go false t h = (untaken, ap (λ (o : Option ℕ). cond {A = ℕ} (is_some o) 1 0)
+        (gone-tells r.stage r.epoch.0 (left (nat_lt r.epoch.0 e && is_gone r.stage) refl h)))
 
 module _ (w : Whole) (K : ℕ) (files : FilesAt) (p : Part) (st : Station) (n : ℕ) (env : NodeEnv) where
   abbrev x : ClientBlock
@@ -76,7 +86,8 @@ module _ (w : Whole) (K : ℕ) (files : FilesAt) (p : Part) (st : Station) (n : 
   -- ---- a connection that is here
 
   module _ (known : SeatKnown w x (seat_of p)) (heard_all : symbols_taken x ≤ w.answers + 2)
-      (homes : (b : ControlBlock) → q.row ≡ Some (record { stage = back.Here b; epoch = record { 0 = env.epoch } }) → IsAt p.front n env.epoch) where
+      (homes : (b : ControlBlock) → q.row ≡ Some (record { stage = back.Here b; epoch = record { 0 = env.epoch } }) → IsAt p.front n env.epoch)
+      (unreturned : (b : ControlBlock) → q.row ≡ Some (record { stage = back.Here b; epoch = record { 0 = env.epoch } }) → q.beside.returned ≡ None) where
     module _ (b : ControlBlock) (s : Stay) (here : IsHereWith env.epoch q b s) where
       is : q.row ≡ Some (record { stage = back.Here b; epoch = record { 0 = env.epoch } })
       is = here-row env.epoch q b s here
@@ -108,31 +119,31 @@ module _ (w : Whole) (K : ℕ) (files : FilesAt) (p : Part) (st : Station) (n : 
 
       heard-here : (said : Said) → IsWarmWord x said x.phase → Owes (with_work env q [] (goes_on env (work_of (on_segment b said).1 s)))
       heard-here said warm = with-stay (λ t. with_work env q [] (goes_on env (work_of (on_segment b said).1 t)))
-          (λ behind. forwarded-lasts w K files p st n at.told at.row b env at.front at.with_ is knows.0 said warm knows.2
+          (λ behind. forwarded-lasts w K files p st n at.told at.row b env at.front at.with_ is knows.0 (unreturned b is) said warm knows.2
           (fits q (goes_on env (work_of (on_segment b said).1 (stay_of q.stay))) behind))
 
       tagged-here : (nodes : List ℕ) → is_some (find (is_under kind.Ask 0) q.kept) ≡ true
           → Owes (with_work env (record q { kept = without kind.Ask 0 q.kept }) [] (goes_on env (tagged env nodes (work_of b s))))
       tagged-here nodes asked = with-stay (λ t. with_work env (record q { kept = without kind.Ask 0 q.kept }) [] (goes_on env (tagged env nodes (work_of b t))))
-          (λ behind. tagged-lasts w K files p st n at.told at.row b env at.front at.with_ is knows.0 nodes asked
+          (λ behind. tagged-lasts w K files p st n at.told at.row b env at.front at.with_ is knows.0 (unreturned b is) nodes asked
           (fits (record q { kept = without kind.Ask 0 q.kept }) (goes_on env (tagged env nodes (work_of b (stay_of q.stay)))) behind))
 
       come-here : (from r : ℕ) → is_from from env.epoch (find (is_under kind.Fetch r) q.fetches) ≡ true
           → Owes (with_work env (record q { fetches = without kind.Fetch r q.fetches }) [] (goes_on env (came_for (come_progress from) r (work_of b s))))
       come-here from r wanted = with-stay (λ t. with_work env (record q { fetches = without kind.Fetch r q.fetches }) []
           (goes_on env (came_for (come_progress from) r (work_of b t))))
-          (λ behind. content-lasts w K files p st n at.told at.row b env at.front at.with_ is knows.0 from r
+          (λ behind. content-lasts w K files p st n at.told at.row b env at.front at.with_ is knows.0 (unreturned b is) from r
           (awaited-some from env.epoch (find (is_under kind.Fetch r) q.fetches) wanted)
           (fits (record q { fetches = without kind.Fetch r q.fetches }) (goes_on env (came_for (come_progress from) r (work_of b (stay_of q.stay)))) behind))
 
       read-here : (r : ℕ) → Owes (with_work env q [] (goes_on env (came_for read_progress r (work_of b s))))
       read-here r = with-stay (λ t. with_work env q [] (goes_on env (came_for read_progress r (work_of b t))))
-          (λ behind. read-lasts w K files p st n at.told at.row b env at.front at.with_ is knows.0 r
+          (λ behind. read-lasts w K files p st n at.told at.row b env at.front at.with_ is knows.0 (unreturned b is) r
           (fits q (goes_on env (came_for read_progress r (work_of b (stay_of q.stay)))) behind))
 
       fired-here : Owes (node_fired_by env q (Some (b, s)))
       fired-here = with-stay (λ t. node_fired_by env q (Some (b, t)))
-          (λ behind. timer-lasts w K files p st n at.told at.row b env at.front at.with_ is knows.0 []
+          (λ behind. timer-lasts w K files p st n at.told at.row b env at.front at.with_ is knows.0 (unreturned b is) []
           (fits q (work_of (after_timer b) (stay_of q.stay)) behind))
 
   -- ---- an Offer that is new
@@ -141,32 +152,38 @@ module _ (w : Whole) (K : ℕ) (files : FilesAt) (p : Part) (st : Station) (n : 
   adopts parts new o behind =
       let v = taking env parts in
       let count = (front_rest p.front.rest).count in
-      let free = new-row n env.epoch count q q.row new in
+      let free = new-row n env.epoch count q q.row o.unrefused new in
       let offered : seat_of p ≡ Offered n env.epoch count = seat-with p n env.epoch false o.row o.front o.with_ ∙ free.0 in
       let E : Ending → Type 0 = λ e. (serving_settled env.serve v.service).0 ≡ e → Behind (kept_after env q v e) → Lasting w K files p st (with_node p n (kept_after env q v (serving_settled env.serve v.service).0)) st in
       by-ending env.serve v.service E
-      (λ none same there. offered-lasts w K files p st n o.row env o.front o.with_ offered free.1 parts o.kept o.fetches o.served o.una
+      (λ none same there. offered-lasts w K files p st n o.row env o.front o.with_ offered free.1 o.unreturned parts o.kept o.fetches o.served o.una
       (λ none.
       let d = (speaks env.serve.c v.service.block).1 in
       let z : NodePart = kept_after env q v (ending.Here d v.service.count) in
       let now : seat_of (with_node p n z) ≡ Here false n env.epoch d (staying_of z) = seat-put p n env.epoch false o.row z o.front o.with_ ∙ away-here false n env.epoch count z d refl in
       let h : SeatKnown w x (Here false n env.epoch d (staying_of z)) = subst (SeatKnown w x) now there in
       h.1))
-      (λ last same there. over-there w K files p st n o.row env o.front o.with_ offered free.1 (kept_after env q v (serving_settled env.serve v.service).0) (ap (λ (e : Ending). (kept_after env q v e).row) same))
+      (λ last same there. over-there w K files p st n o.row env o.front o.with_ offered free.1 (kept_after env q v (serving_settled env.serve v.service).0)
+          (ap (λ (e : Ending). (kept_after env q v e).row) same) (ap (λ (e : Ending). (kept_after env q v e).beside.returned) same ∙ o.unreturned))
       refl behind
 
   -- ---- the end of its stay is known
 
   -- the connection is where it was
-  module _ (row : BackRow) (z : NodePart) (was : q.row ≡ Some row) (ended : is_ended row.stage ≡ true) (now : z.row ≡ Some (record row { stage = back.Gone })) where
+  module _ (row : BackRow) (z : NodePart) (was : q.row ≡ Some row) (ended : is_ended row.stage ≡ true)
+      (now : z.row ≡ Some (record row { stage = back.Gone })) (same_beside : z.beside ≡ q.beside) where
     same-away : (told : Bool) (m e count : ℕ) → seat_away told m e count (node_put_back p.nodes n z m) ≡ seat_away told m e count (p.nodes m)
     same-away told m e count = cond_both (m == n) z (p.nodes m) (λ (y : NodePart). seat_away told m e count y ≡ seat_away told m e count (p.nodes m))
         (λ t.
-        let a : seat_away told m e count z ≡ cond (row.epoch.0 == e) (Gone told m e) (Offered m e count) = ap (seat_decided told m e count z) now in
+        let a : seat_away told m e count z ≡ cond (row.epoch.0 == e) (seat_over told m e q) (seat_untaken m e count q) =
+        ap (seat_decided told m e count z) now ∙ ap (λ (b : Beside). cond (row.epoch.0 == e) (seat_over_by told m e b.returned)
+            (cond (is_this_epoch e b.refused) (Refused m e count) (Offered m e count))) same_beside in
         let b : seat_away told m e count (p.nodes m) ≡ seat_away told m e count q = ap (λ i. seat_away told m e count (p.nodes i)) (eqb-true m n t) in
-        let c : seat_away told m e count q ≡ cond (row.epoch.0 == e) (seat_there told m e count q row.stage) (Offered m e count) = ap (seat_decided told m e count q) was in
-        let d : cond (row.epoch.0 == e) (seat_there told m e count q row.stage) (Offered m e count) ≡ cond (row.epoch.0 == e) (Gone told m e) (Offered m e count) =
-        ap (λ (s : SeatNow). cond (row.epoch.0 == e) s (Offered m e count)) (ended-there told m e count q row.stage ended) in
+        let c : seat_away told m e count q ≡ cond (row.epoch.0 == e) (seat_there told m e count q row.stage) (seat_untaken m e count q) = ap
+            (seat_decided told m e count q) was in
+        let d : cond (row.epoch.0 == e) (seat_there told m e count q row.stage) (seat_untaken m e count q) ≡ cond (row.epoch.0 == e) (seat_over told m e q)
+            (seat_untaken m e count q) =
+        ap (λ (s : SeatNow). cond (row.epoch.0 == e) s (seat_untaken m e count q)) (ended-there told m e count q row.stage ended) in
         a ∙ sym (b ∙ c ∙ d))
         (λ t. refl)
 
@@ -193,7 +210,8 @@ module _ (w : Whole) (K : ℕ) (files : FilesAt) (p : Part) (st : Station) (n : 
   gone-lasts there t behind = go q.row refl t where
     go : (o : Option BackRow) → q.row ≡ o → awaits_ack env.epoch o ≡ true → Lasting w K files p st (with_node p n (record q { row = gone q.row; kept = without kind.Ended 0 q.kept })) st
     go None at t = absurd (let bad : false ≡ true = t in cc)
-    go (Some row) at t = let in_ = there row at in acknowledges row (record q { row = gone q.row; kept = without kind.Ended 0 q.kept }) at (and_parts _ _ t).1 (ap gone at) in_.0 in_.1
+    go (Some row) at t = let in_ = there row at in acknowledges row (record q { row = gone q.row; kept = without kind.Ended 0 q.kept }) at
+        (and_parts _ _ t).1 (ap gone at) refl in_.0 in_.1
 
   -- ---- every rule
 
@@ -205,17 +223,18 @@ module _ (w : Whole) (K : ℕ) (files : FilesAt) (p : Part) (st : Station) (n : 
 
   module _ (known : SeatKnown w x (seat_of p)) (heard_all : symbols_taken x ≤ w.answers + 2)
       (homes : (b : ControlBlock) → q.row ≡ Some (record { stage = back.Here b; epoch = record { 0 = env.epoch } }) → IsAt p.front n env.epoch)
+      (unreturned : (b : ControlBlock) → q.row ≡ Some (record { stage = back.Here b; epoch = record { 0 = env.epoch } }) → q.beside.returned ≡ None)
       (there : (row : BackRow) → q.row ≡ Some row → (1 ≤ n) × (n ≤ K)) where
     kept-last : KeptByNode env q IsExpected Owes
     kept-last = record {
       drops = tt;
-      hears = λ said b s warm here. heard-here known heard_all homes b s here said warm;
-      tags = λ number nodes b s m here asked same count. tagged-here known heard_all homes b s here nodes asked;
-      comes = λ from r b s m here wanted. come-here known heard_all homes b s here from r wanted;
-      reads = λ r path b s m here. read-here known heard_all homes b s here r;
+      hears = λ said b s warm here. heard-here known heard_all homes unreturned b s here said warm;
+      tags = λ number nodes b s m here asked same count. tagged-here known heard_all homes unreturned b s here nodes asked;
+      comes = λ from r b s m here wanted. come-here known heard_all homes unreturned b s here from r wanted;
+      reads = λ r path b s m here. read-here known heard_all homes unreturned b s here r;
       begins = λ parts of new. adopts parts new (of new);
       takes_again = λ parts of again. tt;
-      fires = λ b s m here. fired-here known heard_all homes b s here;
+      fires = λ b s m here. fired-here known heard_all homes unreturned b s here;
       resends = λ m none. tt;
       ends = λ m told. gone-lasts there told;
     }

@@ -18,7 +18,7 @@ use Rattle.lard_rules.specs.declared.places.Ending.TheVariants as ending
 -- A connection that is at node n: the front end's row, the node's, and no more is acknowledged than the client took.
 module _ (k : Whole) (K : ℕ) (files : FilesAt) (p : Part) (st : Station) (n : ℕ) (told : Bool) (row : FrontRow) (b : ControlBlock) (env : NodeEnv)
     (front : p.front.row ≡ Some row) (with_ : IsWith told n env.epoch row.stage) (here : (p.nodes n).row ≡ Some (record { stage = back.Here b; epoch = record { 0 = env.epoch } }))
-    (una : b.send.una ≤ symbols_taken st.client) where
+    (una : b.send.una ≤ symbols_taken st.client) (unreturned : (p.nodes n).beside.returned ≡ None) where
   abbrev q : NodePart
   q = p.nodes n
 
@@ -32,30 +32,35 @@ module _ (k : Whole) (K : ℕ) (files : FilesAt) (p : Part) (st : Station) (n : 
   abbrev pub To : List (Place × List ℕ) → NodePart → Work → Type 0
   To before pp w = Lasting k K files p st (with_node p n (node_rests env pp before w).0) st
 
-  done : (kept fetches : List Kept) (w : Work) → Works st.client env b s kept fetches w → (before : List (Place × List ℕ)) (pp : NodePart) → pp.kept ≡ kept → pp.fetches ≡ fetches → Then w → To before pp w
-  done kept fetches w works before pp ks fs fits = turn-less k K files p st n told row b env front with_ here una kept fetches w works before pp ks fs fits
+  done : (kept fetches : List Kept) (w : Work) → Works st.client env b s kept fetches w → (before : List (Place × List ℕ)) (pp : NodePart) → pp.kept ≡ kept
+      → pp.fetches ≡ fetches → pp.beside.returned ≡ None → Then w
+      → To before pp w
+  done kept fetches w works before pp ks fs none fits = turn-less k K files p st n told row b env front with_ here una kept fetches w works before pp ks fs none fits
 
   pub forwarded-lasts : (said : Said) → IsWarmWord st.client said st.client.phase → (st.client.phase ≡ phase.Reset → ⊥) → Then (goes_on env (work_of (on_segment b said).1 s.stay))
       → To [] q (goes_on env (work_of (on_segment b said).1 s.stay))
-  forwarded-lasts said warm open_ fits = done s.kept s.fetches (goes_on env (work_of (on_segment b said).1 s.stay)) (forwarded-works st.client env b s said warm open_) [] q refl refl fits
+  forwarded-lasts said warm open_ fits = done s.kept s.fetches (goes_on env (work_of (on_segment b said).1 s.stay))
+      (forwarded-works st.client env b s said warm open_) [] q refl refl unreturned fits
 
   pub tagged-lasts : (nodes : List ℕ) → is_some (find (is_under kind.Ask 0) q.kept) ≡ true → Then (goes_on env (tagged env nodes (work_of b s.stay)))
       → To [] (record q { kept = without kind.Ask 0 q.kept }) (goes_on env (tagged env nodes (work_of b s.stay)))
   tagged-lasts nodes asked fits =
-      done (without kind.Ask 0 q.kept) q.fetches (goes_on env (tagged env nodes (work_of b s.stay))) (tagged-works st.client env b s nodes asked) [] (record q { kept = without kind.Ask 0 q.kept }) refl refl fits
+      done (without kind.Ask 0 q.kept) q.fetches (goes_on env (tagged env nodes (work_of b s.stay))) (tagged-works st.client env b s nodes asked) []
+          (record q { kept = without kind.Ask 0 q.kept }) refl refl unreturned fits
 
   pub content-lasts : (from r : ℕ) → is_some (find (is_under kind.Fetch r) q.fetches) ≡ true → Then (goes_on env (came_for (come_progress from) r (work_of b s.stay)))
       → To [] (record q { fetches = without kind.Fetch r q.fetches }) (goes_on env (came_for (come_progress from) r (work_of b s.stay)))
   content-lasts from r wanted fits =
       done q.kept (without kind.Fetch r q.fetches) (goes_on env (came_for (come_progress from) r (work_of b s.stay))) (content-works st.client env b s from r wanted) []
-      (record q { fetches = without kind.Fetch r q.fetches }) refl refl fits
+      (record q { fetches = without kind.Fetch r q.fetches }) refl refl unreturned fits
 
   pub read-lasts : (r : ℕ) → Then (goes_on env (came_for read_progress r (work_of b s.stay))) → To [] q (goes_on env (came_for read_progress r (work_of b s.stay)))
-  read-lasts r fits = done s.kept s.fetches (goes_on env (came_for read_progress r (work_of b s.stay))) (read-works st.client env b s r) [] q refl refl fits
+  read-lasts r fits = done s.kept s.fetches (goes_on env (came_for read_progress r (work_of b s.stay)))
+      (read-works st.client env b s r) [] q refl refl unreturned fits
 
   -- its timer, with whatever is told again
   pub timer-lasts : (before : List (Place × List ℕ)) → Then (work_of (after_timer b) s.stay) → To before q (work_of (after_timer b) s.stay)
-  timer-lasts before fits = done s.kept s.fetches (work_of (after_timer b) s.stay) (timer-works st.client env b s) before q refl refl fits
+  timer-lasts before fits = done s.kept s.fetches (work_of (after_timer b) s.stay) (timer-works st.client env b s) before q refl refl unreturned fits
 
 -- ---- an Offer that is new
 
@@ -70,7 +75,8 @@ takes-on env parts =
     onward-then env [] [] a c (goes_on env c) (first-batch env [] [] a refl refl) (goes-onward env [] [] c)
 
 module _ (k : Whole) (K : ℕ) (files : FilesAt) (p : Part) (st : Station) (n : ℕ) (row : FrontRow) (env : NodeEnv) (front : p.front.row ≡ Some row) (with_ : IsWith false n env.epoch row.stage)
-    (offered : seat_of p ≡ Offered n env.epoch (front_rest p.front.rest).count) (quiet : tells (p.nodes n) ≡ 0) where
+    (offered : seat_of p ≡ Offered n env.epoch (front_rest p.front.rest).count) (quiet : tells (p.nodes n) ≡ 0)
+        (unreturned : (p.nodes n).beside.returned ≡ None) where
   -- Nothing was kept there of it. The Offer has the endpoint as the front end counts, and what the client took was acknowledged to it.
   pub offered-lasts : (parts : EndpointParts) → (p.nodes n).kept ≡ [] → (p.nodes n).fetches ≡ [] → parts.served ≡ (front_rest p.front.rest).count → symbols_taken st.client ≤ parts.una
       → ((taking env parts).service.over ≡ None → read_of (taking env parts) ≤ k.requests)
@@ -81,5 +87,5 @@ module _ (k : Whole) (K : ℕ) (files : FilesAt) (p : Part) (st : Station) (n : 
       let u : w.service.block.send.una ≡ parts.una = o.una in
       let m : parts.served + 0 ≤ read_of w = o.more in
       let c : cost env [] [] w + 4 * (parts.served + 0) ≤ (0 + 0 + 0) + 4 * read_of w = o.cheap in
-      adopted-less k K files p st n row env front with_ offered quiet (taken_sent env) (p.nodes n) w ks fs
+      adopted-less k K files p st n row env front with_ offered quiet (taken_sent env) (p.nodes n) w ks fs unreturned
       (record { una = omega (arith, u, una); more = omega (arith, m, served); cheap = omega (arith, c, served); few = few })

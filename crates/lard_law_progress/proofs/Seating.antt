@@ -2,14 +2,15 @@
 use Rattle.std.proofs.Common.{◌≡◌, ◌≤◌, ◌+◌, ◌==◌, ℕ, Bool, true, false, List, Option, Some, None, refl, ap, ◌∙◌, arith}
 use Rattle.std.proofs.lemmas.Bool.{cond-false}
 use Rattle.std.proofs.lemmas.Bool.Decides.{nat_tests}
-use Rattle.lard_law_view.specs.Prelude.{BackRow, ControlBlock, FilesAt, Final, FrontConn, FrontEnv, FrontPart, FrontRest, FrontRow, NodePart, Part, Service, Station, front_rest, front_rests, offering, symbols, with_front, with_node}
-use Rattle.lard_bound.specs.Seats.{Held, Offered, Over, SeatNow, Unborn, Waiting, seat_away, seat_by, seat_decided, seat_in, seat_of, seat_there, tells_end}
+use Rattle.lard_law_view.specs.Prelude.{BackRow, ControlBlock, Epoch, FilesAt, Final, FrontConn, FrontEnv, FrontPart, FrontRest, FrontRow, NodePart, Part, Service, Station, front_rest, front_rests, offering, symbols, with_front, with_node}
+use Rattle.lard_bound.specs.Seats.{Held, Offered, Over, Refused, SeatNow, Unborn, Waiting, seat_away, seat_by, seat_decided, seat_in, seat_of, seat_there, seat_untaken, tells_end}
 use Rattle.lard_bound.specs.Spots.{post_of, spot_of}
 use Rattle.lard_bound.specs.Units.{Whole, left_with, tellers}
+use Rattle.lard_handoff_back.specs.Leaving.{is_this_epoch}
 use Rattle.lard_rules.specs.Front as front
 use Rattle.lard_handoff_front.specs.declared.row.FrontConn.TheVariants as stage
 use Rattle.lard_rules.specs.Node as node
-use Rattle.lard_law_progress.proofs.Given.{IsWithin, SeatKnown}
+use Rattle.lard_law_progress.proofs.Given.{IsDecidedWithin, IsRefusedWithin, IsWithin, SeatKnown}
 use Rattle.lard_law_progress.proofs.Less.{Lasting, left_by}
 use Rattle.lard_rules.specs.declared.places.Ending.TheVariants as ending
 
@@ -38,15 +39,28 @@ unfolding seat_of
 seat-over p f row rest stays last = refl
 
 -- no node has decided of the epoch that follows
-undecided : (told : Bool) (n e count : ℕ) (q : NodePart) (o : Option BackRow) → IsWithin e o → seat_decided told n (e + 1) count q o ≡ Offered n (e + 1) count
-undecided told n e count q None h = refl
-undecided told n e count q (Some r) h = cond-false (r.epoch.0 == (e + 1)) (seat_there told n (e + 1) count q r.stage) (Offered n (e + 1) count) (other r.epoch.0 e h) where
-  other : (a b : ℕ) → a ≤ b → (a == (b + 1)) ≡ false
-  other a b l = grind (arith, nat_tests, l)
+other : (a b : ℕ) → a ≤ b → (a == (b + 1)) ≡ false
+other a b l = grind (arith, nat_tests, l)
 
-pub seat-offering : (p : Part) (env : FrontEnv) (row : FrontRow) (w : Service) (path : List ℕ) (n : ℕ) → IsWithin row.epoch.0 (p.nodes n).row → seat_of (with_front p (offering env row w path n)) ≡ Offered n (row.epoch.0 + 1) w.count
+unrefused : (e : ℕ) (o : Option Epoch) → IsRefusedWithin e o → is_this_epoch (e + 1) o ≡ false
+unrefused e None h = refl
+unrefused e (Some d) h = other d.0 e h
+
+untaken : (n e count : ℕ) (q : NodePart) → IsRefusedWithin e q.beside.refused → seat_untaken n (e + 1) count q ≡ Offered n (e + 1) count
+untaken n e count q h = cond-false (is_this_epoch (e + 1) q.beside.refused) (Refused n (e + 1) count) (Offered n (e + 1) count)
+    (unrefused e q.beside.refused h)
+
+undecided : (told : Bool) (n e count : ℕ) (q : NodePart) (o : Option BackRow) → IsWithin e o → IsRefusedWithin e q.beside.refused
+    → seat_decided told n (e + 1) count q o ≡ Offered n (e + 1) count
+undecided told n e count q None h u = untaken n e count q u
+undecided told n e count q (Some r) h u =
+    cond-false (r.epoch.0 == (e + 1)) (seat_there told n (e + 1) count q r.stage) (seat_untaken n (e + 1) count q) (other r.epoch.0 e h)
+        ∙ untaken n e count q u
+
+pub seat-offering : (p : Part) (env : FrontEnv) (row : FrontRow) (w : Service) (path : List ℕ) (n : ℕ) → IsDecidedWithin row.epoch.0 (p.nodes n)
+    → seat_of (with_front p (offering env row w path n)) ≡ Offered n (row.epoch.0 + 1) w.count
 unfolding seat_of
-seat-offering p env row w path n h = undecided false n row.epoch.0 w.count (p.nodes n) (p.nodes n).row h
+seat-offering p env row w path n h = undecided false n row.epoch.0 w.count (p.nodes n) (p.nodes n).row h.0 h.1
 
 -- ---- it stays where it is
 

@@ -1,5 +1,5 @@
 -- A segment is no message: its ports are no version and kind.
-use Rattle.std.proofs.Common.{◌*◌, ◌≡◌, ◌≤◌, ◌==◌, nat_lt, nat_eq, not, ℕ, ◌+◌, Bool, true, false, cond, List, length, Option, Some, None, Result, Ok, Err, refl, arith, eqb-true}
+use Rattle.std.proofs.Common.{◌*◌, ◌≡◌, ◌≤◌, nat_lt, nat_eq, not, ℕ, ◌+◌, Bool, true, false, cond, List, length, Option, Some, None, Result, Ok, Err, refl, arith, eqb-true}
 use Rattle.std.proofs.lemmas.Bool.{and_parts, not-false}
 use Rattle.std.specs.Prelude.{slice_index}
 use Rattle.lard_law_view.specs.Prelude.{Dir, Kind, Message, MsgFault, Said, ToClient, ToCluster, are_ports, decoded, decoded_message, is_version, kind_named, number_byte, source_port, target_port, version_at, with_kind, word_at}

@@ -4,9 +4,9 @@ use Rattle.std.proofs.lemmas.Bool.{cond_both}
 use Rattle.lard_law_view.specs.Prelude.{Body, Client, FilesAt, Front, Letter, Machine, Message, MsgFault, Node, Packet, Phase, Place, Reason, Said, SegFault, ToClient, ToCluster, conn, conn_of, decoded, decoded_message, file_at, letter_of, packet_at}
 use Rattle.lard_base.specs.declared.place.Reason.TheVariants as reason
 use Rattle.lard_bound.specs.Chains.{aside_chain, chain_between, front_chain, is_current, node_chain, of_message, reply_chain, word_result}
-use Rattle.lard_bound.specs.Nears.{Crosses, IsAnswer, IsNews, IsUntold, IsUnaware, NearAside, NearBetween, NearEnd, NearEnded, NearEnding, NearClosing, NearForward, NearHeld, NearLast, NearOffer, NearReply, NearSaid, NearSegment, NearTaken, NearTold, NearWord, OfMessage, OfSegment}
+use Rattle.lard_bound.specs.Nears.{Crosses, IsAnswer, IsNews, IsUntold, IsUnaware, NearAside, NearBetween, NearEnd, NearEnded, NearEnding, NearClosing, NearForward, NearGive, NearHeld, NearLast, NearOffer, NearRefused, NearReply, NearSaid, NearSegment, NearTaken, NearTold, NearWord, OfMessage, OfSegment}
 use Rattle.lard_bound.specs.Progress.{NearOn, chain_on}
-use Rattle.lard_bound.specs.Spots.{AtFront, AtNode, Ended, EndpointSymbols, InLine, Left, Nowhere, OnOffer, Post, Spot}
+use Rattle.lard_bound.specs.Spots.{AtFront, AtNode, Declined, Ended, EndpointSymbols, GaveBack, InLine, Left, Nowhere, OnOffer, Post, Spot}
 use Rattle.lard_client.specs.declared.phase.Phase.TheVariants as phase
 use Rattle.lard_law_settles.specs.Course.{NearIn, chain_by, chain_in, chain_of}
 use Rattle.lard_message.specs.declared.message.Body.TheVariants as body
@@ -126,8 +126,10 @@ module _ (t : Spot) where
   segment-never s (AtFront e) h = reply-never 2 (omega arith) e s t.phase h
   segment-never s InLine h = h
   segment-never s (OnOffer n k) h = h
+  segment-never s (Declined n k) h = h
   segment-never s (AtNode told n k e a) h = reply-never 3 (omega arith) e s t.phase h
   segment-never s (Left told n k) h = h
+  segment-never s (GaveBack told n k) h = h
   segment-never s (Ended last taken) h = closing-never taken s last.reason t.phase h
 
   -- ---- messages
@@ -138,14 +140,25 @@ module _ (t : Spot) where
 
   offer-never : (k i : ℕ) (p : Post) → NearOffer 0 k i p → ⊥
   offer-never k i (OnOffer n e) h = none 1 (omega arith) h.2
+  offer-never k i (Declined n e) h = none 2 (omega arith) h.2
   offer-never k i (AtNode told n e ends a) h = unaware-never told h.2
   offer-never k i (Left told n e) h = unaware-never told h.2
+  offer-never k i (GaveBack told n e) h = unaware-never told h.2
   offer-never k i _ h = h
 
   taken-never : (i : ℕ) (p : Post) → NearTaken 0 i p → ⊥
   taken-never i (AtNode false n e ends a) h = none 1 (omega arith) h.1
   taken-never i (Left false n e) h = none 1 (omega arith) h.1
+  taken-never i (GaveBack false n e) h = none 1 (omega arith) h.1
   taken-never i _ h = h
+
+  refused-never : (k i : ℕ) (p : Post) → NearRefused 0 k i p → ⊥
+  refused-never k i (Declined n e) h = none 1 (omega arith) h.2
+  refused-never k i _ h = h
+
+  give-never : (k i : ℕ) (p : Post) → NearGive 0 k i p → ⊥
+  give-never k i (GaveBack told n e) h = none 1 (omega arith) h.2
+  give-never k i _ h = h
 
   forward-never : (k i : ℕ) (r : Result Said SegFault) (p : Post) → NearForward t 0 k i r p → ⊥
   forward-never k i (Ok s) (AtNode told n e ends a) h = held-never ends s t.phase h.2
@@ -166,6 +179,8 @@ module _ (t : Spot) where
 
   said-never : (k i : ℕ) (b : Body) → NearSaid t 0 k i b → ⊥
   said-never k i body.Taken h = taken-never i t.post h
+  said-never k i body.Refused h = refused-never k i t.post h
+  said-never k i (body.Give parts) h = give-never k i t.post h
   said-never k i (body.Ask number queue size paths) h = none 2 (omega arith) h.1
   said-never k i (body.Ended why snd rcv count) h = ending-never k i t.post h
   said-never k i _ h = h

@@ -7,13 +7,14 @@ use Rattle.std.specs.List.{AllByRecursion, find}
 use Rattle.lard_law_view.specs.Prelude.{BackConn, BackRow, Body, Conn, ControlBlock, EndpointParts, FilesAt, Final, Front, FrontConn, FrontRow, IsMessage, Kept, Message, Node, NodePart, Part, Station, Stay, ask_kept, ended_kept, fetch_kept, fetching, front_rest, is_from, is_under, named_paths, names_epoch, spelled_message}
 use Rattle.lard_base.specs.declared.place.TimerKind.TheVariants as kind
 use Rattle.lard_bound.specs.Nears.{IsWanted, Near, NearAside, NearAsk, NearEnding, NearOffer, NearSaid, NearTold, OfMessage}
-use Rattle.lard_bound.specs.Seats.{Gone, Offered, Over, SeatNow, seat_decided, seat_of, seat_there, stay_of, staying_of, tells_end}
+use Rattle.lard_bound.specs.Seats.{Gone, Over, SeatNow, seat_decided, seat_of, seat_there, seat_untaken, stay_of, staying_of, tells_end}
 use Rattle.lard_bound.specs.Spots.{AtNode, Spot, awaits_of, ends_of, post_of, spot_of}
 use Rattle.lard_handoff_back.specs.declared.row.BackConn.TheVariants as back
 use Rattle.lard_handoff_front.specs.declared.row.FrontConn.TheVariants as stage
 use Rattle.lard_message.specs.declared.message.Body.TheVariants as body
 use Rattle.lard_message.proofs.Whole.{again}
 use Rattle.lard_rules.specs.Node.{message}
+use Rattle.lard_law_progress.proofs.AnswersFrontSpots.{over-cases, untaken-cases}
 use Rattle.lard_law_progress.proofs.Away.{IsWith, away-here, seat-with}
 
 -- ---- what is kept, by the stage in which the connection is
@@ -115,13 +116,18 @@ module _ (files : FilesAt) (p : Part) (st : Station) (c : ℕ) where
     there-near : (count : ℕ) (q : NodePart) (b : BackConn) → NearOffer 3 n e (post_of files st.client (seat_there false n e count q b))
     there-near count q (back.Here b) = (refl, refl, omega arith)
     there-near count q back.Out = (refl, refl, omega arith)
-    there-near count q back.Ended = (refl, refl, omega arith)
-    there-near count q back.Gone = (refl, refl, omega arith)
+    there-near count q back.Ended = over-cases false n e q (λ (z : SeatNow). NearOffer 3 n e (post_of files st.client z)) (refl, refl, omega arith)
+        (λ served. (refl, refl, omega arith))
+    there-near count q back.Gone = over-cases false n e q (λ (z : SeatNow). NearOffer 3 n e (post_of files st.client z)) (refl, refl, omega arith)
+        (λ served. (refl, refl, omega arith))
 
     decided-near : (count : ℕ) (q : NodePart) (o : Option BackRow) → NearOffer 3 n e (post_of files st.client (seat_decided false n e count q o))
-    decided-near count q None = (refl, refl, omega arith)
-    decided-near count q (Some row) = cond_both (row.epoch.0 == e) (seat_there false n e count q row.stage) (Offered n e count) (λ (z : SeatNow). NearOffer 3 n e (post_of files st.client z))
-        (λ same. there-near count q row.stage) (λ other. (refl, refl, omega arith))
+    decided-near count q None = untaken-cases n e count q (λ (z : SeatNow). NearOffer 3 n e (post_of files st.client z)) (refl, refl, omega arith)
+        (refl, refl, omega arith)
+    decided-near count q (Some row) = cond_both (row.epoch.0 == e) (seat_there false n e count q row.stage) (seat_untaken n e count q)
+        (λ (z : SeatNow). NearOffer 3 n e (post_of files st.client z))
+        (λ same. there-near count q row.stage) (λ other. untaken-cases n e count q (λ (z : SeatNow). NearOffer 3 n e (post_of files st.client z))
+            (refl, refl, omega arith) (refl, refl, omega arith))
 
     pub offer-near : (row : FrontRow) → p.front.row ≡ Some row → row.stage ≡ stage.Offering n (record { 0 = e }) → (parts : EndpointParts) → IsMessage (of_conn c e (body.Offer parts))
         → Near files t c 3 (record { from = Front; to = Node n; bytes = message c e (body.Offer parts) })

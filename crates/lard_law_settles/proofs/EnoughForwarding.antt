@@ -1,13 +1,13 @@
 -- What the front end sends in the rounds of a settle: its segments go to the client, and of the messages to nodes one that forwards has the
 -- segment that came.
 use Rattle.std.proofs.Common.{◌≡◌, ℕ, List, [], ◌∷◌, map, Option, Some, None, refl}
-use Rattle.lard_law_view.specs.Prelude.{Body, Client, ControlBlock, EndpointParts, FrontDeed, FrontEnv, FrontGets, FrontHears, FrontPart, FrontRest, FrontTurn, Kept, Node, Place, Said, ServeEnv, Service, after_timer, cut_off, front_rest, front_rule, front_saying, last_words, sent_of, serving, serving_ready_of, serving_settled, speaks, speaks_symbols, spoken, timed, tombstone}
+use Rattle.lard_law_view.specs.Prelude.{Body, Client, ControlBlock, EndpointParts, FrontDeed, FrontEnv, FrontGets, FrontHears, FrontPart, FrontRest, FrontRow, FrontTurn, Kept, Node, Place, Said, ServeEnv, Service, after_timer, cut_off, front_rest, front_rule, front_saying, given_sent, handed_off, last_words, returned_row, sent_of, serving, serving_ready_of, serving_settled, speaks, speaks_symbols, spoken, stands_first, timed, tombstone, turn_here}
 use Rattle.lard_rules.specs.Front.{Does, Drops, Says, message}
 use Rattle.lard_history.proofs.Each.{Each, Each-append}
 use Rattle.lard_message.specs.declared.message.Body.TheVariants as body
 use Rattle.lard_law_view.proofs.EndpointSends.{AllTo, ready-to, speaks-to, speaks_symbols-to}
 use Rattle.lard_rules.proofs.Endings.{settled-keeps}
-use Rattle.lard_rules.proofs.FrontCases.{IsAsGiven, KeptByFront, KeptBySegment, begun_service, front-keeps, heard_service, waiting_service}
+use Rattle.lard_rules.proofs.FrontCases.{IsAsGiven, KeptByFront, KeptByReturn, KeptBySegment, begun_service, front-keeps, heard_service, waiting_service}
 
 -- ---- segments
 
@@ -97,6 +97,25 @@ module _ (env : FrontEnv) (W : List ℕ → Type 0) where
     fired-has : (rest : FrontRest) (b : ControlBlock) → AllTo (Client c) (spoken env.serve (serving (after_timer b) rest.count []) (serving_ready_of env.serve (after_timer b) (timed b))).1.segments
     fired-has rest b = spoken-to env.serve (serving (after_timer b) rest.count []) (serving_ready_of env.serve (after_timer b) (timed b)) (ready-to env.serve (after_timer b) (timed b))
 
+    -- its Given stands first
+    given-said : (n epoch : ℕ) (given : Option EndpointParts) → MessagesHave c W (given_sent c n epoch given)
+    given-said n epoch None = tt
+    given-said n epoch (Some parts) = ((n, epoch, body.Given, refl, tt), tt)
+
+    behind : (said : List (Place × List ℕ)) → MessagesHave c W said → (t : FrontTurn) → Has t → Has (stands_first [] said t)
+    behind said h t has = record { segments = has.segments; messages = Each-append (MessageHas c W) said t.messages h has.messages }
+
+    by-return : (said : List (Place × List ℕ)) (row : FrontRow) (parts : EndpointParts) → MessagesHave c W said
+        → KeptByReturn env p said row parts (λ w o. Unit {0}) HasDeed
+    by-return said row parts h = record {
+      reads = tt;
+      holds = λ w r. behind said h (turn_here (serving_settled env.serve w).1) (record { segments = settled-to env.serve w; messages = tt });
+      hands = λ w path choice r is. behind said h (handed_off env (returned_row parts row) w path choice).1
+          (record { segments = tt; messages = ((choice.node, _, _, refl, tt), tt) });
+      waits = λ w path r is. behind said h (turn_here (spoken env.serve (waiting_service env w) []).1)
+          (record { segments = spoken-to env.serve (waiting_service env w) [] tt; messages = tt });
+    }
+
     by-rule : Each (IsOffer c) p.kept → KeptByFront env p (IsWith W) (λ w o. Unit {0}) HasDeed
     by-rule offers = record {
       drops = tt;
@@ -112,6 +131,8 @@ module _ (env : FrontEnv) (W : List ℕ → Type 0) where
       assigns_next = λ n epoch ask m rest found there next. record { segments = tt; messages = ((n, epoch, _, refl, tt), tt) };
       ends_again = λ n epoch last m row found away again. one-said n epoch body.EndedAck tt;
       ends = λ n epoch last m row found away. record { segments = tt; messages = ((n, epoch, body.EndedAck, refl, tt), tt) };
+      gives_again = λ n epoch parts m row found past. one-said n epoch body.Given tt;
+      returns = λ n epoch given m row parts at. by-return (given_sent c n epoch given) row parts (given-said n epoch given);
       admits = λ choice made met row b path at target. record { segments = tt; messages = ((choice.node, _, _, refl, tt), tt) };
     }
 

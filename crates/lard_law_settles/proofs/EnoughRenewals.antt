@@ -22,6 +22,7 @@ use Rattle.lard_laws.proofs.RecordsNodes as records
 use Rattle.lard_laws.proofs.RecordsNodes.{BothKeep, IsEarly, NodeKeeps}
 use Rattle.lard_laws.proofs.RecordsServing.{count-few}
 use Rattle.lard_laws.proofs.RecordsTurns.{AreHeld}
+use Rattle.lard_law_settles.proofs.KnownReturns.{each-ungiven}
 use Rattle.lard_law_settles.proofs.CourseRenewing.{BackKept, IsAsk, IsFetched, IsTold, IsWithNode, Known, Left, OfferKept, Renews, RowKept, StageKept, StayKept}
 use Rattle.lard_law_settles.proofs.CourseTimingClients.{IsDecided}
 use Rattle.lard_handoff_back.specs.declared.row.BackConn.TheVariants as back
@@ -66,11 +67,12 @@ module _ (x : Conn) (placed : IsPlaced x) where
     there (Some r) is h = by r is h.0 r.stage refl h.2
 
 -- who tells an end is where the front end gave it, or the front end has the last numbers
-module _ (p : Part) (n e : ℕ) (is : (p.nodes n).row ≡ Some (record { stage = back.Ended; epoch = record { 0 = e } })) where
+module _ (p : Part) (n e : ℕ) (is : (p.nodes n).row ≡ Some (record { stage = back.Ended; epoch = record { 0 = e } }))
+    (ungiven : (p.nodes n).beside.returned ≡ None) where
   given-to : (told : Bool) (m d : ℕ) (row : FrontRow) → p.front.row ≡ Some row → IsWith told m d row.stage → (m ≡ n) × (d ≡ e) → IsTold (seat_of p) n e
   given-to told m d row at with_ its =
       let with_it : IsWith told n e row.stage = subst (λ (i : ℕ). IsWith told i e row.stage) its.0 (subst (λ (i : ℕ). IsWith told m i row.stage) its.1 with_) in
-      Left told (seat-with p n e told row at with_it ∙ away-ended told n e (front_rest p.front.rest).count (p.nodes n) is)
+      Left told (seat-with p n e told row at with_it ∙ away-ended told n e (front_rest p.front.rest).count (p.nodes n) is ungiven)
 
   at-stage : (row : FrontRow) → p.front.row ≡ Some row → (c : FrontConn) → row.stage ≡ c → IsOfStay n e (stage_whereabouts row.ended_by c) → IsTold (seat_of p) n e
   unfolding seat_of
@@ -201,7 +203,7 @@ module _ (config : Config) (files : List (List ℕ × List ℕ)) (m : Machine) (
     front = subst (λ (c : ℕ). RowKept c (conn m q).part.front.kept (conn m q).part.front.row) (sym conn-is) front-is;
     nodes = λ n. subst (λ (c : ℕ). BackKept (file_at files) c ((conn m q).part.nodes n) ((conn m q).part.nodes n).row) (sym conn-is) (nodes-are n);
     homes = homes-are (conn m q) (each-placed config files m reached q);
-    ends = λ n e is. ends-are (conn m q).part n e is (each-end-is-of-its-stay config files m reached q n);
+    ends = λ n e is. ends-are (conn m q).part n e is (each-ungiven config files m reached q n) (each-end-is-of-its-stay config files m reached q n);
   }
 
   -- a connection that a node has, as the front end knows

@@ -6,12 +6,13 @@ use Rattle.std.specs.FinMap as table
 use Rattle.std.specs.List.{list_any}
 use Rattle.lard_base.proofs.Usable.{usable}
 use Rattle.lard_law_view.specs.Prelude.{BackConn, BackRow, Config, ControlBlock, FrontConn, FrontPart, FrontRow, IsReached, Machine, NodePart, config_check, front_part, front_rest, is_of, is_waiting, line_waits, machine_start, part_of}
-use Rattle.lard_bound.specs.Seats.{Offered, SeatNow, Waiting, seat_away, seat_by, seat_decided, seat_in, seat_of, seat_there}
+use Rattle.lard_bound.specs.Seats.{SeatNow, Waiting, seat_away, seat_by, seat_decided, seat_in, seat_of, seat_there, seat_untaken}
 use Rattle.lard_law_connections.proofs.LineRuns.{line-is-kept, line-is-of-those-who-wait}
 use Rattle.lard_law_connections.specs.LineLaws.{waits_there}
 use Rattle.lard_laws.proofs.StepsTimers.{timers-kept}
 use Rattle.lard_law_view.proofs.Carried.{reached-viewed}
 use Rattle.lard_law_view.proofs.Runs.{passes-keep}
+use Rattle.lard_law_progress.proofs.AnswersFrontSpots.{over-cases, untaken-cases}
 use Rattle.lard_law_settles.proofs.CourseBeginning.{Timers}
 use Rattle.lard_dispatch.specs.declared.line.Waiting as line
 use Rattle.lard_handoff_back.specs.declared.row.BackConn.TheVariants as back
@@ -36,14 +37,16 @@ waits_in _ = false
 there-not : (told : Bool) (n e count : ℕ) (p : NodePart) (s : BackConn) → waits_in (seat_there told n e count p s) ≡ false
 there-not told n e count p (back.Here b) = refl
 there-not told n e count p back.Out = refl
-there-not told n e count p back.Ended = refl
-there-not told n e count p back.Gone = refl
+there-not told n e count p back.Ended = over-cases told n e p (λ z. waits_in z ≡ false) refl (λ served. refl)
+there-not told n e count p back.Gone = over-cases told n e p (λ z. waits_in z ≡ false) refl (λ served. refl)
 
 away-not : (told : Bool) (n e count : ℕ) (p : NodePart) → waits_in (seat_away told n e count p) ≡ false
 away-not told n e count p = go p.row where
   go : (o : Option BackRow) → waits_in (seat_decided told n e count p o) ≡ false
-  go None = refl
-  go (Some row) = cond_both (row.epoch.0 == e) (seat_there told n e count p row.stage) (Offered n e count) (λ z. waits_in z ≡ false) (λ t. there-not told n e count p row.stage) (λ t. refl)
+  go None = untaken-cases n e count p (λ z. waits_in z ≡ false) refl refl
+  go (Some row) = cond_both (row.epoch.0 == e) (seat_there told n e count p row.stage) (seat_untaken n e count p) (λ z. waits_in z ≡ false)
+      (λ t. there-not told n e count p row.stage)
+      (λ t. untaken-cases n e count p (λ z. waits_in z ≡ false) refl refl)
 
 in-waits : (f : FrontPart) (nodes : ℕ → NodePart) (s : FrontConn) → waits_in (seat_in f nodes s) ≡ true → is_waiting s ≡ true
 in-waits f nodes (stage.Waiting b) h = refl

@@ -13,14 +13,15 @@ use Rattle.lard_laws.proofs.TagsAgree.{Agreed}
 use Rattle.lard_law_settles.proofs.KnownClosing.{has-closed}
 use Rattle.lard_law_settles.proofs.KnownStaying.{asks-given, ended-given}
 use Rattle.lard_handoff_front.specs.declared.row.FrontConn.TheVariants as stage
-use Rattle.lard_law_progress.proofs.AnswersFrontGiven.{AtSeat, FrontGiven, HasTag, IsStage, IsWord}
+use Rattle.lard_law_progress.proofs.AnswersFrontGiven.{AtSeat, ComesBackKnown, FrontGiven, HasTag, IsStage, IsWord}
 use Rattle.lard_law_progress.proofs.AnswersFrontSpots.{away-cases, seat-row}
 use Rattle.lard_law_connections.proofs.PlacesTurns.{small-early}
 
--- What other laws give of it: of an endpoint that the front end has, and of what its client says.
+-- What other laws give of it: of an endpoint that the front end has, of a connection that comes back, and of what its client says.
 pub record IsKnownElsewhere (w : Whole) (x : Conn) : Type 0 where
   pub held : (st : Station) (b : ControlBlock) (count : ℕ) → x.part.station ≡ Some st → seat_of x.part ≡ Held b count → AtSeat w st (Held b count)
   pub waiting : (st : Station) (b : ControlBlock) (count : ℕ) → x.part.station ≡ Some st → seat_of x.part ≡ Waiting b count → AtSeat w st (Waiting b count)
+  pub back : ComesBackKnown x
   pub words : (st : Station) (bytes : List ℕ) (s : Said) → x.part.station ≡ Some st → Was x (Client x.c) Front bytes → decoded bytes x.c ToCluster ≡ Ok s → IsWord st (seat_of x.part) bytes s
 
 -- ---- where it sits
@@ -59,7 +60,7 @@ module _ (N : ℕ → Type 0) (files : FilesAt) (w : Whole) (x : Conn) (sits : S
   seat-known : (st : Station) → x.part.station ≡ Some st → AtSeat w st (seat_of x.part)
   seat-known st there = by-row x.part.front.row refl where
     away : (t : Bool) (n e count : ℕ) (q : NodePart) → AtSeat w st (seat_away t n e count q)
-    away t n e count q = away-cases t n e count q (AtSeat w st) tt (λ b. tt) tt
+    away t n e count q = away-cases t n e count q (AtSeat w st) tt tt (λ b. tt) tt (λ served. tt)
 
     by-stage : (row : FrontRow) → x.part.front.row ≡ Some row → (c : FrontConn) → row.stage ≡ c → seat_of x.part ≡ seat_in x.part.front x.part.nodes c → AtSeat w st (seat_in x.part.front x.part.nodes c)
     by-stage row is (stage.Held b) at seat = known.held st b (front_rest x.part.front.rest).count there seat
@@ -81,6 +82,7 @@ module _ (N : ℕ → Type 0) (files : FilesAt) (w : Whole) (x : Conn) (sits : S
     ended = ended-given x ends;
     tags = tag-fits;
     asks = asks-given N files x agreed;
+    back = known.back;
     seats = seat-known;
     words = known.words;
   }

@@ -11,7 +11,8 @@ use Rattle.lard_law_connections.proofs.BytesClientMoves.{open-at}
 use Rattle.lard_law_connections.proofs.BytesRuns.{states-truthful}
 use Rattle.lard_laws.proofs.EndedRuns.{connections-were-closed}
 use Rattle.lard_laws.proofs.PastRuns.{each-end-is-of-its-stay}
-use Rattle.lard_law_connections.proofs.PlacesRuns.{each-sits}
+use Rattle.lard_law_connections.proofs.PlacesFrontMessages.{never-back, no-give}
+use Rattle.lard_law_connections.proofs.PlacesRuns.{each-placed, each-sits}
 use Rattle.lard_laws.proofs.RecordsFronts.{RestKeeps}
 use Rattle.lard_laws.proofs.RecordsHolding.{Holds}
 use Rattle.lard_laws.proofs.TagsGoing.{each-agrees}
@@ -20,6 +21,7 @@ use Rattle.lard_laws.proofs.WindowsForwards.{forwards-were}
 use Rattle.lard_laws.proofs.WindowsWordRuns.{words-fit}
 use Rattle.lard_law_settles.proofs.KnownFrontGiving.{front-given}
 use Rattle.lard_law_settles.proofs.KnownFrontWords.{word, word-there}
+use Rattle.lard_law_settles.proofs.KnownReturns.{each-ungiven, never-given, never-refused}
 use Rattle.lard_message.specs.declared.message.Body.TheVariants as body
 use Rattle.lard_law_progress.proofs.AnswersFrontGiven.{AtSeat, FrontGiven, IsWord}
 use Rattle.lard_law_progress.proofs.AnswersNodeGiven.{HasIt, IsForwarded}
@@ -59,6 +61,18 @@ module _ (config : Config) (files : List (List ℕ × List ℕ)) (checked : conf
   pub each-front : Holds m → (w : Whole) → ((st : Station) (b : ControlBlock) (count : ℕ) → x.part.station ≡ Some st → seat_of x.part ≡ Held b count → AtSeat w st (Held b count))
       → ((st : Station) (b : ControlBlock) (count : ℕ) → x.part.station ≡ Some st → seat_of x.part ≡ Waiting b count → AtSeat w st (Waiting b count)) → FrontGiven (file_at files) w x
   each-front holds w held waiting =
+      let placed = each-placed config files m reached q in
+      let ungiven = each-ungiven config files m reached q in
       front-given (IsNode config.nodes) (file_at files) w x (each-sits config files m reached q).0 (each-sits config files m reached q).1 truth (connections-ack config files (usable config checked).stream m reached q free)
       (connections-were-closed config files (usable config checked).stream m reached q free) (rest-keeps m q holds) (each-end-is-of-its-stay config files m reached q) (each-agrees config files checked m reached q free)
-      (record { held = held; waiting = waiting; words = λ st bytes s there was read. each-word st there bytes s was read })
+      (record {
+        held = held;
+        waiting = waiting;
+        back = record {
+          refused = λ n e count is. absurd (never-refused x.part placed.unrefused ungiven n e count is);
+          returns = λ n e given bytes spells was row parts back. absurd (never-back x placed n e given bytes was spells);
+          given = λ told n e served is. absurd (never-given x.part placed.unrefused ungiven told n e served is);
+          gives = λ n e parts bytes spells was. absurd (no-give x placed n e parts bytes was spells);
+        };
+        words = λ st bytes s there was read. each-word st there bytes s was read;
+      })

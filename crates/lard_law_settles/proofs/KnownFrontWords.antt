@@ -64,7 +64,7 @@ module _ (files : FilesAt) (x : Conn) (st : Station) (there : x.part.station ≡
   awaited : (seq : ℕ) → Acks st.client.send.iss acts.heard seq → WasAwaited st seq (seat_of x.part)
   awaited seq a = by-row x.part.front.row refl where
     away : (t : Bool) (n e count : ℕ) (q : NodePart) → WasAwaited st seq (seat_away t n e count q)
-    away t n e count q = away-cases t n e count q (WasAwaited st seq) tt (λ b. tt) tt
+    away t n e count q = away-cases t n e count q (WasAwaited st seq) tt tt (λ b. tt) tt (λ served. tt)
 
     here : (b : ControlBlock) → acts.heard ≡ heard b.recv → (a : ℕ) × (seq ≡ seq_add st.client.send.iss a) × (a ≤ heard b.recv)
     here b same = let most : a.0 ≤ acts.heard = a.2 in (a.0, a.1, omega (arith, most, same))

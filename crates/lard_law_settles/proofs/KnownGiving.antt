@@ -1,7 +1,7 @@
 -- All that the rules want given is so of each connection that the schedule did not touch, in every state that events lead to.
 use Rattle.std.specs.Int.{from_be_bytes, to_be_bytes, w32}
 use Rattle.std.proofs.lemmas.Nat.{from_be_bytes-to_be_bytes_4}
-use Rattle.std.proofs.Common.{drop, take, ◌≡◌, ◌≤◌, ◌<◌, ◌^◌, ℕ, List, [], ◌∷◌, Some, Ok, ⊎_elim, refl, sym, ap, ◌∙◌, subst, arith}
+use Rattle.std.proofs.Common.{drop, take, ◌≡◌, ◌⊎◌, ◌≤◌, ◌<◌, ◌^◌, ℕ, List, [], ◌∷◌, Some, Ok, ⊎_elim, refl, sym, ap, ◌∙◌, subst, arith}
 use Rattle.lard_law_view.specs.Prelude.{BackRow, Conn, EndpointParts, FilesAt, Front, FrontRow, IsConnNumber, IsStream, Kept, Node, SpellsMessage, Station, Stream, Talk, Verdict, Was, decoded_message, front_rest, offer_answer, parts_of, spelled_message, tale_at}
 use Rattle.lard_base.specs.declared.place.TimerKind.TheVariants as kind
 use Rattle.lard_bound.specs.Units.{Whole, whole_of}
@@ -10,28 +10,31 @@ use Rattle.lard_law_connections.specs.BytesAgreement.{AwayAgrees, FrontTells, Is
 use Rattle.lard_law_connections.proofs.BytesMessages.{offers-read}
 use Rattle.lard_law_connections.specs.Kept.{FrontKeeps, FrontRowKeeps, FrontStageKeeps}
 use Rattle.lard_law_connections.specs.LimitsCounts.{CountsWhatWasServed}
-use Rattle.lard_law_connections.specs.Places.{IsDecided, IsPast, Sits, StageSits, owning}
-use Rattle.lard_law_connections.proofs.PlacesFrontMessages.{came-says}
+use Rattle.lard_law_connections.specs.Places.{HasEnded, IsDecided, IsPast, Sits, StageSits, owning}
+use Rattle.lard_law_connections.proofs.PlacesFrontMessages.{came-says, never-back, offer-says}
 use Rattle.lard_law_connections.proofs.PlacesFrontRules.{has-each}
 use Rattle.lard_law_connections.proofs.PlacesTurns.{IsPlaced, early-at}
 use Rattle.lard_rules.specs.Front.{message}
 use Rattle.lard_handoff_back.specs.declared.table.Adopt.TheVariants.{New}
+use Rattle.lard_handoff_back.specs.Leaving.{is_this_epoch}
 use Rattle.lard_handoff_front.specs.declared.row.FrontConn.TheVariants as stage
 use Rattle.lard_law_settles.proofs.KnownCounting.{client-said, client-took, frozen-knows}
 use Rattle.lard_law_settles.proofs.KnownKnowing.{IsPlacing, seat-knows}
+use Rattle.lard_law_settles.proofs.KnownReturns.{IsUngiven}
 use Rattle.lard_law_settles.proofs.KnownSitting.{IsOfferedAt, new-undecided, said-offered, sits-at, sits-fresh, sits-gone}
 use Rattle.lard_law_settles.proofs.KnownSmall.{IsSmall, RowSmall, StageSmall}
 use Rattle.lard_message.specs.declared.message.Body.TheVariants as body
 use Rattle.lard_law_progress.proofs.Given.{IsNewOffer, Known}
 
 -- What the law of what is kept, and the laws of ways, give beside: where the front end placed it, there is a request; a node to which an
--- Offer comes new keeps nothing of the connection; only nodes that are there have rows.
+-- Offer comes new keeps nothing of the connection; only nodes that are there have rows; and none gives one back.
 pub record Beside (nodes : ℕ) (w : Whole) (x : Conn) : Type 0 where
   pub asks : (row : FrontRow) → x.part.front.row ≡ Some row → IsPlacing row.stage → 1 ≤ w.requests
   pub idle : (n e : ℕ) → offer_answer e (x.part.nodes n).row ≡ New → ((x.part.nodes n).kept ≡ []) × ((x.part.nodes n).fetches ≡ [])
   pub there : (n : ℕ) (row : BackRow) → (x.part.nodes n).row ≡ Some row → (1 ≤ n) × (n ≤ nodes)
   pub keeps : FrontKeeps x.c x.part.front
   pub small : IsSmall x.part.front
+  pub ungiven : IsUngiven x
 
 -- two Offers of the same bytes count as many responses
 served-same : (c e d : ℕ) (p q : EndpointParts) → message c e (body.Offer p) ≡ message c d (body.Offer q) → p.served < 2 ^ 32 → q.served < 2 ^ 32 → p.served ≡ q.served
@@ -55,7 +58,7 @@ module _ (files : FilesAt) (x : Conn) (st : Station) (k : Talk) (pend : List Ver
 
   module _ (n e : ℕ) (parts : EndpointParts) (bytes : List ℕ) (spells : SpellsMessage x.c e (body.Offer parts) bytes) (was : Was x Front (Node n) bytes) (new : offer_answer e (x.part.nodes n).row ≡ New) where
     at : IsOfferedAt x.part.front n e
-    at = said-offered x.part.front n e (x.part.nodes n).row new (came-says x Front (Node n) e (body.Offer parts) bytes placed.letters was spells)
+    at = said-offered x.part.front n e (x.part.nodes n).row new (offer-says x placed n e parts bytes was spells)
 
     sits : StageSits at.row.epoch.0 (owning (tale_at x)) x.part.nodes (stage.Offering n (record { 0 = e }))
     sits = subst (StageSits at.row.epoch.0 (owning (tale_at x)) x.part.nodes) at.with_ (subst (Sits (owning (tale_at x)) x.part.nodes) at.front placed.sits).0
@@ -70,12 +73,22 @@ module _ (files : FilesAt) (x : Conn) (st : Station) (k : Talk) (pend : List Ver
         absurd (new-undecided e (x.part.nodes n).row new (subst (λ i. IsDecided i (x.part.nodes n).row) (sym sits.1) d.0)))
         agrees
 
+    -- the front end is not past it
+    offered-still : HasEnded e x.part.front.row → ⊥
+    offered-still h =
+        let less : e < at.row.epoch.0 = subst (HasEnded e) at.front h in
+        let same : e ≡ at.row.epoch.0 = sits.1 in
+        omega (arith, less, same)
+
     -- it is the one that is kept
     kept : IsKept x.part.front.kept bytes
     kept =
         let fair = has-each (IsFair k x.c x.part) (record { from = Front; to = Node n; bytes = bytes }) x.letters was o.fair in
         let tells : FrontTells k x.c x.part n e bytes (body.Offer parts) = fair (record { c = x.c; epoch = record { 0 = e }; body = body.Offer parts }) spells in
-        ⊎_elim (λ (d : IsDecided e (x.part.nodes n).row). absurd (new-undecided e (x.part.nodes n).row new d)) (λ (i : IsKept x.part.front.kept bytes). i) tells
+        ⊎_elim (λ (d : IsDecided e (x.part.nodes n).row). absurd (new-undecided e (x.part.nodes n).row new d))
+        (λ (h : HasEnded e x.part.front.row ⊎ IsKept x.part.front.kept bytes). ⊎_elim
+        (λ (h : HasEnded e x.part.front.row). absurd (offered-still h)) (λ (i : IsKept x.part.front.kept bytes). i) h)
+        tells
 
     its-bytes : bytes ≡ message x.c at.row.epoch.0 (body.Offer (parts_of offering.block offering.count))
     its-bytes =
@@ -117,7 +130,8 @@ module _ (files : FilesAt) (x : Conn) (st : Station) (k : Talk) (pend : List Ver
         let free = beside.idle n e new in
         let knows = frozen-knows files x.c st k o.client o.says w is offering.block [] offering.count offering.holds.holds offering.frozen in
         let una : parts.una ≡ offering.block.send.una = ap (λ (p : EndpointParts). p.una) read in
-        record { row = at.row; front = at.front; with_ = at.with_; kept = free.0; fetches = free.1; served = serves; una = omega (arith, knows, una) }
+        record { row = at.row; front = at.front; with_ = at.with_; unrefused = ap (is_this_epoch e) (placed.unrefused n); unreturned = beside.ungiven n;
+            kept = free.0; fetches = free.1; served = serves; una = omega (arith, knows, una) }
 
   -- ---- all of it
 
@@ -126,10 +140,13 @@ module _ (files : FilesAt) (x : Conn) (st : Station) (k : Talk) (pend : List Ver
     said = client-said files x.c st k o.client o.says w is;
     heard = client-took files x.c st k o.client o.says w is;
     seat = seat-knows files x st k pend o acts stream counts w is beside.asks;
-    fresh = sits-fresh (owning (tale_at x)) x.part.nodes x.part.front.row placed.sits;
+    fresh = sits-fresh (owning (tale_at x)) x.part.nodes placed.unrefused x.part.front.row placed.sits;
     homes = λ n e b at. sits-at (owning (tale_at x)) x.part.front x.part.nodes placed.sits n e b at;
+    unreturned = λ n e b at. beside.ungiven n;
     there = beside.there;
     offers = new-offer;
     ends = λ n e why snd rcv count bytes spells was row at t.
-        sits-gone (owning (tale_at x)) x.part n e (came-says x (Node n) Front e (body.Ended why snd rcv count) bytes placed.letters was spells) row at placed.sits t;
+        sits-gone (owning (tale_at x)) x.part n e beside.ungiven
+            (came-says x (Node n) Front e (body.Ended why snd rcv count) bytes placed.letters was spells) row at placed.sits t;
+    returns = λ n e given bytes spells was row parts is. absurd (never-back x placed n e given bytes was spells);
   }

@@ -2,7 +2,7 @@
 use Rattle.std.proofs.Common.{◌≡◌, ◌⊎◌, ◌≤◌, ◌+◌, ◌==◌, ℕ, Bool, true, false, cond, List, [], length, Option, Some, None, inl, inr, ⊎_elim, refl, sym, ◌∙◌, subst, arith}
 use Rattle.std.proofs.lemmas.Bool.{both_ways, cond-true, cond_both, eq-eqb}
 use Rattle.lard_law_view.specs.Prelude.{BackConn, BackRow, Conn, ControlBlock, FilesAt, FrontConn, FrontRow, NodePart, Station, Stay, Talk, Verdict, front_rest, tale_at}
-use Rattle.lard_bound.specs.Seats.{Here, Offered, SeatNow, seat_away, seat_decided, seat_in, seat_of, seat_there, stay_of, staying_of}
+use Rattle.lard_bound.specs.Seats.{Here, SeatNow, seat_away, seat_decided, seat_in, seat_of, seat_there, seat_untaken, stay_of, staying_of}
 use Rattle.lard_bound.specs.Units.{Whole, symbols_taken, whole_of}
 use Rattle.lard_client.specs.declared.phase.Phase.TheVariants as phase
 use Rattle.lard_laws.specs.Acks.{BackActs, BackStageActs, FrontActs, FrontStageActs, OpenActs, bounds_of}
@@ -14,6 +14,7 @@ use Rattle.lard_handoff_back.specs.declared.row.BackConn.TheVariants as back
 use Rattle.lard_handoff_front.specs.declared.row.FrontConn.TheVariants as stage
 use Rattle.lard_law_settles.proofs.KnownCounting.{read-most, stay-most, taken-same}
 use Rattle.lard_law_view.proofs.Acked.{taken_by}
+use Rattle.lard_law_progress.proofs.AnswersFrontSpots.{over-cases, untaken-cases}
 use Rattle.lard_law_progress.proofs.Given.{SeatKnown}
 use Rattle.lard_law_progress.proofs.Placing.{freeze-open}
 use Rattle.lard_law_progress.proofs.Seating.{seat-at, seat-none}
@@ -60,12 +61,16 @@ module _ (files : FilesAt) (x : Conn) (st : Station) (k : Talk) (pend : List Ver
     there : (row : BackRow) → q.row ≡ Some row → (s : BackConn) → row.stage ≡ s → Here_ (seat_there told n e count q s)
     there row at (back.Here b) eq = here row at b eq
     there row at back.Out eq = wants
-    there row at back.Ended eq = tt
-    there row at back.Gone eq = tt
+    there row at back.Ended eq = over-cases told n e q Here_ tt (λ served. tt)
+    there row at back.Gone eq = over-cases told n e q Here_ tt (λ served. tt)
+
+    untaken : Here_ (seat_untaken n e count q)
+    untaken = untaken-cases n e count q Here_ wants tt
 
     decided : (r : Option BackRow) → q.row ≡ r → Here_ (seat_decided told n e count q r)
-    decided None at = wants
-    decided (Some row) at = cond_both (row.epoch.0 == e) (seat_there told n e count q row.stage) (Offered n e count) Here_ (λ t. there row at row.stage refl) (λ t. wants)
+    decided None at = untaken
+    decided (Some row) at = cond_both (row.epoch.0 == e) (seat_there told n e count q row.stage) (seat_untaken n e count q) Here_
+        (λ t. there row at row.stage refl) (λ t. untaken)
 
     away : Here_ (seat_away told n e count q)
     away = decided q.row refl

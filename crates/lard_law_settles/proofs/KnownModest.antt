@@ -2,14 +2,16 @@
 use Rattle.std.proofs.Common.{◌≡◌, ◌⊎◌, ◌≤◌, ◌+◌, ◌*◌, ◌==◌, ℕ, zero, suc, Bool, true, false, cond, List, [], ◌∷◌, length, is_some, Option, Some, None, inl, inr, ⊎_elim, refl, sym, ap, ◌∙◌, subst, arith}
 use Rattle.std.proofs.lemmas.Bool.{both_ways, cases_eq, cond_both, eq-eqb}
 use Rattle.lard_law_view.specs.Prelude.{BackConn, BackRow, Conn, Entry, Epoch, FilesAt, FrontConn, FrontRow, Kept, NodePart, Progress, Station, Stay, front_rest}
-use Rattle.lard_bound.specs.Seats.{Offered, SeatNow, seat_decided, seat_in, seat_of, seat_there, stay_of, telling, tells_end}
+use Rattle.lard_bound.specs.Seats.{SeatNow, seat_decided, seat_in, seat_of, seat_over, seat_over_by, seat_there, seat_untaken, stay_of, telling, tells_end}
 use Rattle.lard_bound.specs.Units.{Whole, batch_left, progress_left, tellers}
 use Rattle.lard_laws.specs.Past.{AtFront, AtNode, DecidedIn, EndsAreOfStays, EpochsAreOfOneNode, IsOfStay, Over, RowTells, StageTells, stage_whereabouts, whereabouts, whereabouts_of}
 use Rattle.lard_law_connections.specs.Kept.{AsksFor, HereKeeps, IsKeptByStage, NodeRowKeeps, NodeStageKeeps, contents_awaited, awaits_content}
 use Rattle.lard_handoff_back.specs.declared.row.BackConn.TheVariants as back
 use Rattle.lard_handoff_front.specs.declared.row.FrontConn.TheVariants as stage
 use Rattle.lard_law_settles.proofs.KnownKnowing.{IsPlacing}
+use Rattle.lard_law_settles.proofs.KnownReturns.{IsUngiven}
 use Rattle.lard_rules.specs.declared.stay.Progress.TheVariants as progress
+use Rattle.lard_law_progress.proofs.AnswersFrontSpots.{untaken-cases}
 use Rattle.lard_law_progress.proofs.Away.{tells}
 use Rattle.lard_law_progress.proofs.Given.{SeatKnown}
 use Rattle.lard_law_progress.proofs.Most.{IsModest, IsModestStay}
@@ -92,7 +94,7 @@ one-asks c e number (path ∷ paths) ks h = let l : length ks ≡ 1 = ap (λ (ks
 
 -- ---- a connection
 
-module _ (w : Whole) (N : ℕ → Type 0) (files : FilesAt) (x : Conn) (st : Station) (K : ℕ) (ends : EndsAreOfStays x)
+module _ (w : Whole) (N : ℕ → Type 0) (files : FilesAt) (x : Conn) (st : Station) (K : ℕ) (ungiven : IsUngiven x) (ends : EndsAreOfStays x)
     (one : EpochsAreOfOneNode x) (keeps : IsKeptByStage N files x)
     (asks : (row : FrontRow) → x.part.front.row ≡ Some row → IsPlacing row.stage → 1 ≤ w.requests) where
   abbrev nodes : ℕ → NodePart
@@ -142,14 +144,17 @@ module _ (w : Whole) (N : ℕ → Type 0) (files : FilesAt) (x : Conn) (st : Sta
         (λ (other : m ≡ n → ⊥). others m other)
         (cases_eq m n))
 
+    over : Bounded (seat_over told n e q)
+    over = subst (λ (o : Option ℕ). Bounded (seat_over_by told n e o)) (sym (ungiven n)) (λ known. (one-tells nodes n K others, some))
+
     there : (row : BackRow) → q.row ≡ Some row → (s : BackConn) → row.stage ≡ s → Bounded (seat_there told n e count q s)
     there row at (back.Here b) is = λ known.
         let none : telling row.stage row.epoch.0 ≡ None = ap (λ (s : BackConn). telling s row.epoch.0) is in
         let kept : HereKeeps N files x.c row.epoch.0 n q q.stay = subst (NodeStageKeeps N files x.c row.epoch.0 n q) is (subst (NodeRowKeeps N files x.c n q) at (keeps.nodes n)) in
         (quiet (tells-stage q row at none), some, modest-stay n row.epoch.0 q.stay kept known.1)
     there row at back.Out is = λ known. (quiet (tells-stage q row at (ap (λ (s : BackConn). telling s row.epoch.0) is)), some)
-    there row at back.Ended is = λ known. (one-tells nodes n K others, some)
-    there row at back.Gone is = λ known. (one-tells nodes n K others, some)
+    there row at back.Ended is = over
+    there row at back.Gone is = over
 
     -- what it decided in another epoch it tells no end of
     elsewhere : (row : BackRow) → q.row ≡ Some row → (row.epoch.0 == e) ≡ false → tells q ≡ 0
@@ -160,11 +165,14 @@ module _ (w : Whole) (N : ℕ → Type 0) (files : FilesAt) (x : Conn) (st : Sta
         let same : row.epoch.0 ≡ e = sym (ap (λ (r : BackRow). r.epoch.0) one_row) ∙ sym its.1 in
         both_ways (row.epoch.0 == e) other (eq-eqb row.epoch.0 e same))
 
+    untaken : tells q ≡ 0 → Bounded (seat_untaken n e count q)
+    untaken none = untaken-cases n e count q Bounded (λ known. (quiet none, some)) (λ known. (quiet none, some))
+
     decided : (o : Option BackRow) → q.row ≡ o → Bounded (seat_decided told n e count q o)
-    decided None at = λ known. (quiet (tells-none q at), some)
+    decided None at = untaken (tells-none q at)
     decided (Some row) at =
-        cond_both (row.epoch.0 == e) (seat_there told n e count q row.stage) (Offered n e count) Bounded (λ t. there row at row.stage refl)
-        (λ t known. (quiet (elsewhere row at t), some))
+        cond_both (row.epoch.0 == e) (seat_there told n e count q row.stage) (seat_untaken n e count q) Bounded (λ t. there row at row.stage refl)
+        (λ t. untaken (elsewhere row at t))
 
   by-stage : (row : FrontRow) → x.part.front.row ≡ Some row → (s : FrontConn) → row.stage ≡ s → Bounded (seat_in x.part.front nodes s)
   by-stage row at s is = go s is where

@@ -5,7 +5,7 @@ use Rattle.std.specs.Prelude.{All}
 use Rattle.std.proofs.lemmas.Bool.{both_ways, cond_both, eq-eqb, le-ltb, ne_eqb, and_from, or_from}
 use Rattle.lard_law_view.specs.Prelude.{AreBytes, BackConn, BackRow, Config, Conn, ControlBlock, Event, FilesAt, Front, FrontConn, FrontRow, Has, IsReached, Letter, MAX_STREAM_BYTES, Machine, Node, NodePart, Packet, Passes, Said, Setting, SpellsMessage, Station, Stay, ToCluster, Verdict, Was, config_check, conn, conn_of, decoded, file_at, front_rest, is_no_node, is_row_at, is_with, letter_of, letters, letters_in, machine_start, one_of, setting, tale_at, verdicts, which_leave, with_leaving}
 use Rattle.lard_answers.proofs.Growing.{verdicts-nothing}
-use Rattle.lard_bound.specs.Seats.{Gone, Held, Here, Offered, Over, SeatNow, Unborn, Waiting, seat_away, seat_decided, seat_in, seat_of, seat_there, staying_of}
+use Rattle.lard_bound.specs.Seats.{Held, Here, Offered, Over, SeatNow, Unborn, Waiting, seat_away, seat_decided, seat_in, seat_of, seat_there, seat_untaken, staying_of}
 use Rattle.lard_laws.specs.BackingRequests.{IsFor}
 use Rattle.lard_laws.specs.BackingState.{LetterFor, SaysFor}
 use Rattle.lard_laws.proofs.BackingRules.{each-backed}
@@ -17,7 +17,7 @@ use Rattle.lard_law_connections.specs.Kept.{HereKeeps, NodeRowKeeps, NodeStageKe
 use Rattle.lard_law_connections.specs.KeptLaws.{AnyNode}
 use Rattle.lard_law_connections.proofs.KeptRuns.{connections-are-kept}
 use Rattle.lard_law_connections.specs.Places.{IsPast, Sits, owning}
-use Rattle.lard_law_connections.proofs.PlacesFrontMessages.{came-says}
+use Rattle.lard_law_connections.proofs.PlacesFrontMessages.{offer-says}
 use Rattle.lard_law_connections.proofs.PlacesFrontRules.{has-each}
 use Rattle.lard_law_connections.proofs.PlacesRuns.{each-placed}
 use Rattle.lard_laws.specs.Records.{IsRunFile, IsScheduled}
@@ -28,14 +28,17 @@ use Rattle.lard_laws.specs.WaysState.{marks_at}
 use Rattle.lard_files.specs.Files as files_of
 use Rattle.lard_files.proofs.Lookups.{file-kept}
 use Rattle.lard_handoff_back.specs.declared.row.BackConn.TheVariants as back
+use Rattle.lard_handoff_back.specs.Leaving.{is_this_epoch}
 use Rattle.lard_handoff_front.specs.declared.row.FrontConn.TheVariants as stage
 use Rattle.lard_history.proofs.Each.{Each, Each-append, Each-weaker}
 use Rattle.lard_law_settles.proofs.KnownAsking.{some-got}
 use Rattle.lard_law_settles.proofs.KnownRuns.{each-known, node-there, view, written_on}
+use Rattle.lard_law_settles.proofs.KnownReturns.{each-ungiven, never-refused}
 use Rattle.lard_law_settles.proofs.KnownSitting.{said-offered, sits-at}
 use Rattle.lard_law_view.proofs.ByteLists.{all-each, bytes-index, each-all}
 use Rattle.lard_message.specs.declared.message.Body.TheVariants as body
 use Rattle.lard_law_progress.proofs.AnswersFrontGiven.{IsTalking}
+use Rattle.lard_law_progress.proofs.AnswersFrontSpots.{over-cases, untaken-cases}
 use Rattle.lard_law_progress.proofs.AnswersNodeGiven.{HasIt, IsForwarded, NodeGiven}
 use Rattle.lard_law_progress.proofs.Given.{SeatKnown}
 use Rattle.lard_law_progress.proofs.Seating.{seat-at, seat-none}
@@ -78,13 +81,16 @@ module _ (N : ℕ → Type 0) (x : Conn) (files : FilesAt) (c n e count : ℕ) w
     there : (row : BackRow) → q.row ≡ Some row → (s : BackConn) → row.stage ≡ s → seat_there told m d cnt q s ≡ Offered n e count → IsAway told m d
     there row at (back.Here b) is eq = absurd (let bad : Here told m d b (staying_of q) ≡ Offered n e count = eq in cc)
     there row at back.Out is eq = absurd (subst (NodeStageKeeps N files c row.epoch.0 m q) is (subst (NodeRowKeeps N files c m q) at keeps))
-    there row at back.Ended is eq = absurd (let bad : Gone told m d ≡ Offered n e count = eq in cc)
-    there row at back.Gone is eq = absurd (let bad : Gone told m d ≡ Offered n e count = eq in cc)
+    there row at back.Ended is eq = over-cases told m d q (λ (z : SeatNow). z ≡ Offered n e count → IsAway told m d) (λ eq. absurd cc)
+        (λ served eq. absurd cc) eq
+    there row at back.Gone is eq = over-cases told m d q (λ (z : SeatNow). z ≡ Offered n e count → IsAway told m d) (λ eq. absurd cc)
+        (λ served eq. absurd cc) eq
 
     decided : (o : Option BackRow) → q.row ≡ o → IsNewTo d o → seat_decided told m d cnt q o ≡ Offered n e count → IsAway told m d
-    decided None at k eq = record { node = ap node_in eq; epoch = ap epoch_in eq; none = at }
+    decided None at k eq = untaken-cases m d cnt q (λ (z : SeatNow). z ≡ Offered n e count → IsAway told m d)
+        (λ eq. record { node = ap node_in eq; epoch = ap epoch_in eq; none = at }) (λ eq. absurd cc) eq
     decided (Some row) at k eq = go (row.epoch.0 == d) refl eq where
-      go : (b : Bool) → (row.epoch.0 == d) ≡ b → cond b (seat_there told m d cnt q row.stage) (Offered m d cnt) ≡ Offered n e count → IsAway told m d
+      go : (b : Bool) → (row.epoch.0 == d) ≡ b → cond b (seat_there told m d cnt q row.stage) (seat_untaken m d cnt q) ≡ Offered n e count → IsAway told m d
       go true t eq = there row at row.stage refl eq
       go false t eq = absurd (both_ways (row.epoch.0 == d) t (eq-eqb row.epoch.0 d k))
 
@@ -191,7 +197,10 @@ module _ (config : Config) (files : List (List ℕ × List ℕ)) (small : config
           files = λ path file is. (file-kept files path file (each-all files_of.IsFile files (Each-weaker IsRunFile files_of.IsFile (λ f h. h.0) files (all-each IsRunFile files named))) is).1;
           homes = λ n e b has. let h = sits-at (owning (tale_at x)) x.part.front x.part.nodes placed.sits n e b has in (h.told, h.row, h.front, h.with_);
           stays = stays;
-          news = λ n e parts bytes spells was new. let h = said-offered x.part.front n e (x.part.nodes n).row new (came-says x Front (Node n) e (body.Offer parts) bytes placed.letters was spells) in (h.row, h.front, h.with_);
+          unrefused = never-refused x.part placed.unrefused (each-ungiven config files m reached q);
+          news = λ n e parts bytes spells was new. let h = said-offered x.part.front n e (x.part.nodes n).row new
+              (offer-says x placed n e parts bytes was spells) in
+              (h.row, h.front, h.with_, ap (is_this_epoch e) (placed.unrefused n));
           fresh = λ n e count eq. (offered n e count eq).none;
           few = λ told n e b s eq.
               let o = by-opened (λ u. let bad : Unborn ≡ Here told n e b s = sym (seat-none x.part u.front) ∙ eq in cc) in

@@ -18,6 +18,7 @@ use Rattle.lard_law_view.proofs.Carried.{reached-viewed}
 use Rattle.lard_law_settles.proofs.KnownAsking.{new-idle, placing-asks}
 use Rattle.lard_law_settles.proofs.KnownGiving.{known}
 use Rattle.lard_law_settles.proofs.KnownModest.{modest}
+use Rattle.lard_law_settles.proofs.KnownReturns.{each-ungiven}
 use Rattle.lard_law_settles.proofs.KnownSmall.{each-small}
 use Rattle.lard_law_progress.proofs.Given.{Known}
 use Rattle.lard_law_progress.proofs.Most.{IsModest}
@@ -71,6 +72,7 @@ module _ (config : Config) (files : List (List ℕ × List ℕ)) (small : config
         there = node-there m view q;
         keeps = kept.front;
         small = each-small config files small m reached q free;
+        ungiven = each-ungiven config files m reached q;
       })
 
   -- so what is left to do on it is bounded
@@ -80,6 +82,7 @@ module _ (config : Config) (files : List (List ℕ × List ℕ)) (small : config
       let o : IsOpen (file_at files) x truth.talk truth.pend st = subst (ConnAgrees (file_at files) x truth.talk truth.pend) at truth.agrees in
       let kept = connections-are-kept config files m reached q in
       let same : written_on ≡ whole_of (file_at files) truth.talk.w.bytes = ap (whole_of (file_at files)) o.tale.wrote in
-      modest written_on AnyNode (file_at files) x st m.config.nodes (each-end-is-of-its-stay config files m reached q) (each-epoch-is-of-one-node config files m reached q) kept
+      modest written_on AnyNode (file_at files) x st m.config.nodes (each-ungiven config files m reached q)
+          (each-end-is-of-its-stay config files m reached q) (each-epoch-is-of-one-node config files m reached q) kept
       (placing-asks (file_at files) x st truth.talk truth.pend o ((each-guarded config files small m reached q).0 free) kept.front written_on same)
       (each-known free st at).seat

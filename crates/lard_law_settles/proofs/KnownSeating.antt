@@ -2,7 +2,7 @@
 use Rattle.std.proofs.Common.{◌≡◌, ◌≤◌, ◌==◌, ℕ, Bool, true, false, List, [], length, Option, Some, None, ⊎_elim, refl, sym, ◌∙◌, subst}
 use Rattle.std.proofs.lemmas.Bool.{both_ways, cond_both, eqb-true}
 use Rattle.lard_law_view.specs.Prelude.{BackConn, BackRow, Conn, ControlBlock, FilesAt, FrontConn, FrontRow, Part, Station, Stay, Talk, front_rest, may_freeze, tale_at}
-use Rattle.lard_bound.specs.Seats.{Held, Here, Offered, Over, SeatNow, Waiting, seat_away, seat_decided, seat_in, seat_of, seat_there}
+use Rattle.lard_bound.specs.Seats.{Held, Here, Over, SeatNow, Waiting, seat_away, seat_decided, seat_in, seat_of, seat_there, seat_untaken}
 use Rattle.lard_bound.specs.Units.{Whole}
 use Rattle.lard_laws.specs.Acks.{AcksWhatWasTaken, BackActs, EndActs, FrontActs, FrontStageActs, OpenActs, StationActs, bounds_of}
 use Rattle.lard_laws.proofs.AcksStory.{reset-told}
@@ -18,7 +18,7 @@ use Rattle.lard_law_settles.proofs.KnownTalking.{HasSaid, talks}
 use Rattle.lard_handoff_back.specs.declared.row.BackConn.TheVariants as back
 use Rattle.lard_handoff_front.specs.declared.row.FrontConn.TheVariants as stage
 use Rattle.lard_law_progress.proofs.AnswersFrontGiven.{AtSeat, IsTalking}
-use Rattle.lard_law_progress.proofs.AnswersFrontSpots.{seat-row}
+use Rattle.lard_law_progress.proofs.AnswersFrontSpots.{over-cases, seat-row, untaken-cases}
 use Rattle.lard_law_progress.proofs.AnswersNodeGiven.{HasIt}
 use Rattle.lard_law_progress.proofs.Away.{IsWith}
 use Rattle.lard_law_progress.proofs.Given.{IsAt, Known, SeatKnown}
@@ -44,13 +44,13 @@ seat-has p = go p.front.row refl where
     there : (row : BackRow) → (p.nodes n).row ≡ Some row → row.epoch.0 ≡ e → (c : BackConn) → row.stage ≡ c → SeatHas p (seat_there told n e count (p.nodes n) c)
     there row is same (back.Here b) eq = is ∙ (λ i. Some (record { stage = eq i; epoch = record { 0 = same i } }))
     there row is same back.Out eq = tt
-    there row is same back.Ended eq = tt
-    there row is same back.Gone eq = tt
+    there row is same back.Ended eq = over-cases told n e (p.nodes n) (SeatHas p) tt (λ served. tt)
+    there row is same back.Gone eq = over-cases told n e (p.nodes n) (SeatHas p) tt (λ served. tt)
 
     by-row : (o : Option BackRow) → (p.nodes n).row ≡ o → SeatHas p (seat_decided told n e count (p.nodes n) o)
-    by-row None is = tt
-    by-row (Some row) is = cond_both (row.epoch.0 == e) (seat_there told n e count (p.nodes n) row.stage) (Offered n e count) (SeatHas p)
-        (λ same. there row is (eqb-true row.epoch.0 e same) row.stage refl) (λ other. tt)
+    by-row None is = untaken-cases n e count (p.nodes n) (SeatHas p) tt tt
+    by-row (Some row) is = cond_both (row.epoch.0 == e) (seat_there told n e count (p.nodes n) row.stage) (seat_untaken n e count (p.nodes n)) (SeatHas p)
+        (λ same. there row is (eqb-true row.epoch.0 e same) row.stage refl) (λ other. untaken-cases n e count (p.nodes n) (SeatHas p) tt tt)
 
   at : (row : FrontRow) → p.front.row ≡ Some row → (c : FrontConn) → row.stage ≡ c → SeatHas p (seat_in p.front p.nodes c)
   at row is (stage.Held b) eq = (row, is, eq)

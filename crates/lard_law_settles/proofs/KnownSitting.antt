@@ -2,13 +2,13 @@
 -- an end that comes new is of a stay that is over, and an Offer that is new is the one that is awaited.
 use Rattle.std.proofs.Common.{◌≡◌, ◌⊎◌, ◌≤◌, ◌<◌, ◌==◌, ◌&&◌, nat_lt, ℕ, Bool, true, false, cond, Option, Some, None, ⊎_elim, refl, sym, ap, ◌∙◌, subst, arith}
 use Rattle.std.proofs.lemmas.Bool.{and_parts, cases_eq, cond-true, eqb-true, eq-eqb, ltb-true}
-use Rattle.lard_bound.specs.Seats.{Gone, Offered, seat_away, seat_decided, seat_of, seat_there}
+use Rattle.lard_bound.specs.Seats.{Gone, seat_away, seat_decided, seat_of, seat_over_by, seat_there, seat_untaken}
 use Rattle.lard_law_connections.specs.Places.{IsComing, IsDecided, IsLeft, IsOffered, IsOver, IsPast, IsThere, Offers, OthersArePast, Owning, Sits, StageSits}
 use Rattle.lard_law_view.specs.Prelude.{BackConn, BackRow, ControlBlock, FrontConn, FrontPart, FrontRow, NodePart, Part, front_rest, is_away, is_gone, offer_answer}
 use Rattle.lard_handoff_back.specs.declared.row.BackConn.TheVariants as back
 use Rattle.lard_handoff_back.specs.declared.table.Adopt.TheVariants.{Again, New, Stale}
 use Rattle.lard_handoff_front.specs.declared.row.FrontConn.TheVariants as stage
-use Rattle.lard_law_progress.proofs.Given.{IsAt, IsFresh, IsGone, IsWithin}
+use Rattle.lard_law_progress.proofs.Given.{IsAt, IsFresh, IsGone, IsRefusedWithin, IsWithin}
 use Rattle.lard_law_progress.proofs.Seating.{seat-at}
 
 -- ---- epochs
@@ -45,9 +45,10 @@ module _ (w : Owning) (nodes : ℕ → NodePart) where
   stage-fresh e (stage.Moved n d) h m = away-fresh n e h.2 (there-within n e w (nodes n).row h.3) m
   stage-fresh e _ h m = past-within e (nodes m).row (h.1.1 m)
 
-  pub sits-fresh : (o : Option FrontRow) → Sits w nodes o → IsFresh nodes o
-  sits-fresh None h = tt
-  sits-fresh (Some row) h = stage-fresh row.epoch.0 row.stage h.0
+  -- none refused it
+  pub sits-fresh : ((n : ℕ) → (nodes n).beside.refused ≡ None) → (o : Option FrontRow) → Sits w nodes o → IsFresh nodes o
+  sits-fresh none None h = tt
+  sits-fresh none (Some row) h = λ n. (stage-fresh row.epoch.0 row.stage h.0 n, subst (IsRefusedWithin row.epoch.0) (sym (none n)) tt)
 
 -- ---- who has a connection was offered it
 
@@ -90,18 +91,20 @@ over-decided : (e : ℕ) (o : Option BackRow) → IsOver e o → IsDecided e o
 over-decided e None h = h
 over-decided e (Some r) h = h.0
 
-left-gone : (told : Bool) (n e count : ℕ) (q : NodePart) (s : BackConn) → IsLeft s → seat_there told n e count q s ≡ Gone told n e
-left-gone told n e count q (back.Here b) h = absurd h
-left-gone told n e count q back.Out h = absurd h
-left-gone told n e count q back.Ended h = refl
-left-gone told n e count q back.Gone h = refl
+left-gone : (told : Bool) (n e count : ℕ) (q : NodePart) (s : BackConn) → q.beside.returned ≡ None → IsLeft s → seat_there told n e count q s ≡ Gone told n e
+left-gone told n e count q (back.Here b) none h = absurd h
+left-gone told n e count q back.Out none h = absurd h
+left-gone told n e count q back.Ended none h = ap (seat_over_by told n e) none
+left-gone told n e count q back.Gone none h = ap (seat_over_by told n e) none
 
-over-gone : (w : Owning) (told : Bool) (n e count : ℕ) (q : NodePart) (o : Option BackRow) → IsThere n e w o → IsOver e o → seat_decided told n e count q o ≡ Gone told n e
-over-gone w told n e count q None there over = absurd there
-over-gone w told n e count q (Some r) there over =
-    cond-true (r.epoch.0 == e) (seat_there told n e count q r.stage) (Offered n e count) (eq-eqb r.epoch.0 e there.0) ∙ left-gone told n e count q r.stage (over.1 there.0)
+over-gone : (w : Owning) (told : Bool) (n e count : ℕ) (q : NodePart) (o : Option BackRow) → q.beside.returned ≡ None → IsThere n e w o → IsOver e o
+    → seat_decided told n e count q o ≡ Gone told n e
+over-gone w told n e count q None none there over = absurd there
+over-gone w told n e count q (Some r) none there over =
+    cond-true (r.epoch.0 == e) (seat_there told n e count q r.stage) (seat_untaken n e count q) (eq-eqb r.epoch.0 e there.0)
+        ∙ left-gone told n e count q r.stage none (over.1 there.0)
 
-module _ (w : Owning) (p : Part) (n e : ℕ) (over : IsOver e (p.nodes n).row) where
+module _ (w : Owning) (p : Part) (n e : ℕ) (none : (m : ℕ) → (p.nodes m).beside.returned ≡ None) (over : IsOver e (p.nodes n).row) where
   over-node : (m d : ℕ) → e ≡ d → OthersArePast m d p.nodes → n ≡ m
   over-node m d same others = ⊎_elim
       (λ (eq : n ≡ m). eq)
@@ -111,7 +114,7 @@ module _ (w : Owning) (p : Part) (n e : ℕ) (over : IsOver e (p.nodes n).row) w
   over-seat : (told : Bool) (m d : ℕ) → e ≡ d → n ≡ m → IsThere m d w (p.nodes m).row → seat_away told m d (front_rest p.front.rest).count (p.nodes m) ≡ Gone told m d
   over-seat told m d same eq there =
       let o : IsOver d (p.nodes m).row = subst (λ i. IsOver d (p.nodes i).row) eq (subst (λ i. IsOver i (p.nodes n).row) same over) in
-      over-gone w told m d (front_rest p.front.rest).count (p.nodes m) (p.nodes m).row there o
+      over-gone w told m d (front_rest p.front.rest).count (p.nodes m) (p.nodes m).row (none m) there o
 
   gone-stage : (row : FrontRow) → p.front.row ≡ Some row → (s : FrontConn) → row.stage ≡ s → StageSits row.epoch.0 w p.nodes s → is_away e s ≡ true → IsGone (seat_of p)
   gone-stage row at stage.Lent is h t = absurd h

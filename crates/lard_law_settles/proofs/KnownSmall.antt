@@ -1,12 +1,16 @@
 -- Of a connection that the front end offers to a node, it counts no more responses than a message has room for.
-use Rattle.std.proofs.Common.{◌≡◌, ◌≤◌, ◌<◌, ◌+◌, ◌^◌, ℕ, false, List, [], length, Option, Some, None, sym, ◌∙◌, subst, arith}
+use Rattle.std.proofs.Common.{◌≡◌, ◌≤◌, ◌<◌, ◌+◌, ◌^◌, ℕ, false, List, [], length, Option, Some, None, refl, sym, ◌∙◌, subst, arith}
 use Rattle.std.proofs.lemmas.List.{length-drop}
-use Rattle.lard_law_view.specs.Prelude.{ClientRules, Config, Conn, ControlBlock, Ending, FilesAt, FrontConn, FrontDeed, FrontEnv, FrontPart, FrontRest, FrontRow, FrontRules, IsControlBlock, IsUntouchedLaw, MAX_STREAM_BYTES, MayRestOn, Move, NodeRules, OfEach, Said, Seen, ServeEnv, Service, Setting, Station, Talk, Untouched, Verdict, answered, ended_at_fin, front_does, front_fired, front_reads, front_rest, front_rests, front_rule, grown, node_does, on_segment, serving_consumed, serving_settled, setting, spoken, tale_at, with_leaving}
+use Rattle.lard_law_view.specs.Prelude.{ClientRules, Config, Conn, ControlBlock, Ending, EndpointParts, FilesAt, FrontConn, FrontDeed, FrontEnv, FrontGets, FrontPart, FrontRest, FrontRow, FrontRules, IsConnNumber, IsControlBlock, IsUntouchedLaw, MAX_STREAM_BYTES, MayRestOn, Move, NodeRules, OfEach, Place, ReturnedBy, Said, Seen, ServeEnv, Service, Setting, Station, Talk, Untouched, Verdict, answered, back_part, back_rest, ended_at_fin, front_does, front_fired, front_reads, front_rest, front_rests, front_rule, given_sent, grown, node_does, on_segment, parts_of, returned_row, serving_consumed, serving_settled, setting, spoken, tale_at, with_leaving}
 use Rattle.lard_base.specs.declared.place.Via.TheVariants.{Own}
 use Rattle.lard_law_connections.specs.BytesAgreement.{ConnAgrees, FrontHolds, IsTruthful, SeatAgrees, StageAgrees}
+use Rattle.lard_law_connections.proofs.BytesReturns.{refused-offering, refused-parts}
 use Rattle.lard_law_connections.proofs.BytesRuns.{states-truthful}
+use Rattle.lard_law_connections.proofs.PlacesFrontMessages.{no-give}
+use Rattle.lard_law_connections.proofs.PlacesRuns.{each-placed}
+use Rattle.lard_law_connections.proofs.PlacesTurns.{IsPlaced}
 use Rattle.lard_law_view.proofs.Carried.{carried}
-use Rattle.lard_law_view.proofs.EachFront.{admission, each-front}
+use Rattle.lard_law_view.proofs.EachFront.{FrontComes, HasBack, admission, each-front}
 use Rattle.lard_law_view.proofs.EachNode.{each-node}
 use Rattle.lard_law_view.proofs.Frames.{Owed, clients-leave}
 use Rattle.lard_law_view.proofs.Guarded.{client-weaker, untouched-law}
@@ -18,7 +22,7 @@ use Rattle.lard_rules.specs.declared.places.Ending.TheVariants as ending
 use Rattle.lard_rules.proofs.FrontReads.{reading-keeps}
 use Rattle.lard_rules.proofs.Endings.{answered-keeps, at-fin-keeps}
 use Rattle.lard_rules.proofs.Reading.{answered-unread}
-use Rattle.lard_rules.proofs.FrontCases.{KeptByFront, KeptBySegment, IsInStage, begun_row, begun_service, front-keeps, heard_reading, heard_service, waiting_service}
+use Rattle.lard_rules.proofs.FrontCases.{IsBack, KeptByFront, KeptByReturn, KeptBySegment, IsInStage, back_service, begun_row, begun_service, front-keeps, heard_reading, heard_service, waiting_service}
 
 -- ---- reading answers no more requests than there are unread bytes
 
@@ -72,6 +76,12 @@ waits-small : (f : FrontPart) (row : FrontRow) (rest : FrontRest) (e : Ending) �
 waits-small f row rest (ending.Here b n) = tt
 waits-small f row rest (ending.Over last) = tt
 
+-- what comes back counts few
+abbrev IsFewBack : FrontPart → FrontGets → Type 0
+IsFewBack p (ReturnedBy n epoch given) = (row : FrontRow) (parts : EndpointParts) → IsBack p n epoch given row parts
+    → parts.served + length parts.unread ≤ 2 ^ 31
+IsFewBack p _ = Unit {0}
+
 module _ (p : FrontPart) (few : (row : FrontRow) → p.row ≡ Some row → StageFew (front_rest p.rest).count row.stage) where
   -- few were counted where what was read is to be placed
   abbrev Came : Service → Option (List ℕ) → Type 0
@@ -104,8 +114,19 @@ module _ (p : FrontPart) (few : (row : FrontRow) → p.row ≡ Some row → Stag
     words = λ row last at. tt;
   }
 
+  -- it comes back
+  by-return : (env : FrontEnv) (said : List (Place × List ℕ)) (row : FrontRow) (parts : EndpointParts) → parts.served + length parts.unread ≤ 2 ^ 31
+      → KeptByReturn env p said row parts Came DeedSmall
+  by-return env said row parts most = record {
+    reads = let h = reads-most env.serve (2 ^ 31) (back_service env row parts) most in omega (arith, h);
+    holds = λ w small. held-small (back_part p row parts) (returned_row parts row) (back_rest parts) (serving_settled env.serve w).0;
+    hands = λ w path choice small is. small;
+    waits = λ w path small is. waits-small (back_part p row parts) (returned_row parts row) (record (back_rest parts) { target = Some path })
+        (spoken env.serve (waiting_service env w) []).0;
+  }
+
   -- whatever comes
-  by-rule : (env : FrontEnv) → IsSmall p → KeptByFront env p (λ g. Unit {0}) Came DeedSmall
+  by-rule : (env : FrontEnv) → IsSmall p → KeptByFront env p (IsFewBack p) Came DeedSmall
   by-rule env small = record {
     drops = tt;
     hears = λ bytes s m. by-segment env bytes s;
@@ -120,6 +141,8 @@ module _ (p : FrontPart) (few : (row : FrontRow) → p.row ≡ Some row → Stag
     assigns_next = λ n epoch ask m rest found there next. subst (λ (o : Option FrontRest). RowSmall (front_rest o).count p.row) found small;
     ends_again = λ n epoch last m row found away again. tt;
     ends = λ n epoch last m row found away. tt;
+    gives_again = λ n epoch parts m row found past. tt;
+    returns = λ n epoch given few row parts at. by-return env (given_sent env.serve.c n epoch given) row parts (few row parts at);
     admits = λ choice made met row b path at target. let few-here : (front_rest p.rest).count ≤ 2 ^ 30 = few-at row (stage.Waiting b) at in omega (arith, few-here);
   }
 
@@ -143,11 +166,28 @@ truth-few files x truth row at = go x.part.station truth.agrees where
   go (Some st) h = stage-few x truth.talk truth.pend row.epoch.0 row.stage
       (subst (SeatAgrees truth.talk.w truth.talk.out truth.talk.vs truth.pend truth.talk.was_reset x.c x.part) at h.seat)
 
+-- and of an Offer that is kept
+back-few : (files : FilesAt) (x : Conn) → IsTruthful files x → IsPlaced x → IsConnNumber x.c
+    → (n epoch : ℕ) (given : Option EndpointParts) (heads : List Seen) → HasBack x n epoch given heads
+    → (row : FrontRow) (parts : EndpointParts) → IsBack x.part.front n epoch given row parts → parts.served + length parts.unread ≤ 2 ^ 31
+back-few files x truth placed number n epoch (Some q) heads comes row parts is = absurd (no-give x placed n epoch q comes.bytes comes.was comes.spells)
+back-few files x truth placed number n epoch None heads comes row parts is = go x.part.station truth.agrees where
+  go : (o : Option Station) → ConnAgrees files x truth.talk truth.pend o → parts.served + length parts.unread ≤ 2 ^ 31
+  go None h = absurd (let bad : ◌≡◌ {A = Option FrontRow} (Some row) None = sym (is.refused refl).0 ∙ h.front in cc)
+  go (Some st) h =
+      let offering = refused-offering files x st truth.talk truth.pend h placed n epoch heads comes row parts is in
+      let read : parts ≡ parts_of offering.block offering.count = refused-parts files x st truth.talk truth.pend h placed n epoch heads comes row parts is number in
+      let count = holds-few truth.talk truth.pend offering.block offering.count offering.holds in
+      let received = offering.holds.holds.sound.received in
+      let got : offering.block.recv.got ≤ 2 ^ 30 = received.received in
+      let within : length offering.block.recv.unread ≤ offering.block.recv.got = received.within in
+      subst (λ (q : EndpointParts). q.served + length q.unread ≤ 2 ^ 31) (sym read) (omega (arith, count, got, within))
+
 -- ---- the law
 
 module _ (k : Setting) where
   abbrev Given : Conn → Type 0
-  Given x = Untouched (IsTruthful k.files) x
+  Given x = Untouched (IsTruthful k.files) x × IsPlaced x
 
   abbrev Wanted : Conn → Move → Type 0
   Wanted x v = MayRestOn Given x → (tale_at x).touched ≡ false → IsSmall x.part.front → IsSmall (grown x v).part.front
@@ -163,7 +203,12 @@ module _ (k : Setting) where
   node-deed x n heads (node.Does given) small = small
 
   few-of : (x : Conn) → MayRestOn Given x → (tale_at x).touched ≡ false → (row : FrontRow) → x.part.front.row ≡ Some row → StageFew (front_rest x.part.front.rest).count row.stage
-  few-of x m free = truth-few k.files x (m.given free)
+  few-of x m free = truth-few k.files x (m.given.0 free)
+
+  few-back : (x : Conn) (env : FrontEnv) (heads : List Seen) (g : FrontGets) → FrontComes x env heads g → MayRestOn Given x → (tale_at x).touched ≡ false
+      → IsFewBack x.part.front g
+  few-back x env heads (ReturnedBy n epoch given) comes m free = back-few k.files x (m.given.0 free) m.given.1 m.number n epoch given heads comes
+  few-back x env heads _ comes m free = tt
 
   clients : ClientRules k Wanted
   clients = client-weaker k (Owed Wanted) Wanted (λ x v owed m. owed m.number m.sound m)
@@ -171,7 +216,9 @@ module _ (k : Setting) where
 
   fronts : FrontRules k Wanted
   fronts = each-front k Wanted (λ x env heads g is comes m free h. front-deed x heads (front_rule env x.part.front g)
-      (front-keeps env x.part.front (λ g. Unit {0}) (Came x.part.front (few-of x m free)) DeedSmall (by-rule x.part.front (few-of x m free) env h) g (admission x env heads g comes) tt) h)
+      (front-keeps env x.part.front (IsFewBack x.part.front) (Came x.part.front (few-of x m free)) DeedSmall (by-rule x.part.front (few-of x m free) env h) g
+          (admission x env heads g comes)
+      (few-back x env heads g comes m free)) h)
 
   nodes : NodeRules k Wanted
   nodes = each-node k Wanted (record {
@@ -187,4 +234,4 @@ pub each-small : (config : Config) (files : List (List ℕ × List ℕ)) → con
 each-small config files most =
     let k : Setting = setting config files in
     carried config files (Given k) (Untouched (λ x. IsSmall x.part.front)) (λ l. untouched-law (with_leaving k l) (Given k) (λ x. IsSmall x.part.front) (small-law (with_leaving k l)))
-    (λ m r q. states-truthful config files most m r q)
+    (λ m r q. (states-truthful config files most m r q, each-placed config files m r q))

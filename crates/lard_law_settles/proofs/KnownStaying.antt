@@ -5,7 +5,7 @@ use Rattle.std.proofs.lemmas.Bool.{cond_both, eqb-true}
 use Rattle.lard_law_view.specs.Prelude.{BackConn, BackRow, Conn, ControlBlock, Epoch, FilesAt, Final, FrontConn, FrontRow, NodePart, Part, Stay, front_rest, is_under}
 use Rattle.lard_base.specs.declared.place.TimerKind.TheVariants as kind
 use Rattle.lard_bound.specs.Seats as seat
-use Rattle.lard_bound.specs.Seats.{Here, Offered, SeatNow, Staying, Unborn, seat_away, seat_decided, seat_in, seat_of, seat_there, stay_of, staying_of, tells_end, telling}
+use Rattle.lard_bound.specs.Seats.{Here, Offered, SeatNow, Staying, Unborn, seat_away, seat_decided, seat_in, seat_of, seat_there, seat_untaken, stay_of, staying_of, tells_end, telling}
 use Rattle.lard_laws.specs.Past.{EndsAreOfStays, Over, RowTells, StageTells, stage_whereabouts, whereabouts, whereabouts_of}
 use Rattle.lard_law_connections.specs.Kept.{HereKeeps, NodeRowKeeps}
 use Rattle.lard_law_connections.specs.KeptLaws.{AnyNode}
@@ -13,7 +13,7 @@ use Rattle.lard_laws.proofs.TagsAgree.{Agreed, asks-agree}
 use Rattle.lard_handoff_back.specs.declared.row.BackConn.TheVariants as back
 use Rattle.lard_handoff_front.specs.declared.row.FrontConn.TheVariants as stage
 use Rattle.lard_law_progress.proofs.AnswersFrontGiven.{IsAsked}
-use Rattle.lard_law_progress.proofs.AnswersFrontSpots.{away-cases, seat-row}
+use Rattle.lard_law_progress.proofs.AnswersFrontSpots.{away-cases, over-cases, seat-row, untaken-cases}
 
 -- ---- at a node
 
@@ -31,13 +31,19 @@ away-stay t told m d count n e q b s = go q.row refl where
       let node : m ≡ n = cc in let epoch : d ≡ e = cc in let block : c ≡ b = cc in let stay : s ≡ staying_of q = cc in
       (node, (here-row q row c b d e is at same block epoch, stay))
   there row is same back.Out at f = absurd cc
-  there row is same back.Ended at f = absurd cc
-  there row is same back.Gone at f = absurd cc
+  there row is same back.Ended at f = over-cases t m d q (λ (z : SeatNow). z ≡ Here told n e b s → (m ≡ n) × HasHere q e b s) (λ f. absurd cc)
+      (λ served f. absurd cc) f
+  there row is same back.Gone at f = over-cases t m d q (λ (z : SeatNow). z ≡ Here told n e b s → (m ≡ n) × HasHere q e b s) (λ f. absurd cc)
+      (λ served f. absurd cc) f
+
+  untaken : seat_untaken m d count q ≡ Here told n e b s → (m ≡ n) × HasHere q e b s
+  untaken = untaken-cases m d count q (λ (z : SeatNow). z ≡ Here told n e b s → (m ≡ n) × HasHere q e b s) (λ f. absurd cc) (λ f. absurd cc)
 
   go : (o : Option BackRow) → q.row ≡ o → seat_decided t m d count q o ≡ Here told n e b s → (m ≡ n) × HasHere q e b s
-  go None is f = absurd cc
-  go (Some row) is f = cond_both (row.epoch.0 == d) (seat_there t m d count q row.stage) (Offered m d count) (λ (z : SeatNow). z ≡ Here told n e b s → (m ≡ n) × HasHere q e b s)
-      (λ same. there row is (eqb-true row.epoch.0 d same) row.stage refl) (λ other g. absurd cc) f
+  go None is f = untaken f
+  go (Some row) is f = cond_both (row.epoch.0 == d) (seat_there t m d count q row.stage) (seat_untaken m d count q)
+      (λ (z : SeatNow). z ≡ Here told n e b s → (m ≡ n) × HasHere q e b s)
+      (λ same. there row is (eqb-true row.epoch.0 d same) row.stage refl) (λ other. untaken) f
 
 pub seat-stay : (p : Part) (told : Bool) (n e : ℕ) (b : ControlBlock) (s : Staying) → seat_of p ≡ Here told n e b s → HasHere (p.nodes n) e b s
 seat-stay p told n e b s seat = go p.front.row refl where
@@ -92,7 +98,8 @@ module _ (x : Conn) (ends : EndsAreOfStays x) where
   pub ended-given : (row : FrontRow) (last : Final) (n i : ℕ) → x.part.front.row ≡ Some row → seat_of x.part ≡ seat.Over last → tells_end (x.part.nodes n).row ≡ Some i → row.ended_by ≡ Some (record { 0 = i })
   ended-given row last n i is sits told = at row.stage refl (sym (seat-row x.part (Some row) is) ∙ sits) where
     away : (t : Bool) (m d count : ℕ) → seat_away t m d count (x.part.nodes m) ≡ seat.Over last → ⊥
-    away t m d count = away-cases t m d count (x.part.nodes m) (λ (z : SeatNow). z ≡ seat.Over last → ⊥) (λ f. cc) (λ b f. cc) (λ f. cc)
+    away t m d count = away-cases t m d count (x.part.nodes m) (λ (z : SeatNow). z ≡ seat.Over last → ⊥) (λ f. cc) (λ f. cc) (λ b f. cc) (λ f. cc)
+        (λ served f. cc)
 
     at : (c : FrontConn) → row.stage ≡ c → seat_in x.part.front x.part.nodes c ≡ seat.Over last → row.ended_by ≡ Some (record { 0 = i })
     at (stage.Held b) staged f = absurd cc

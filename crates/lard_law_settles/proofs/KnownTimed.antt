@@ -3,7 +3,7 @@ use Rattle.std.proofs.Common.{◌≡◌, ◌⊎◌, ◌≤◌, ◌<◌, ◌^◌,
 use Rattle.std.proofs.lemmas.Bool.{and_parts, cond_both}
 use Rattle.lard_law_view.specs.Prelude.{BackConn, BackRow, Conn, ControlBlock, FilesAt, Final, FrontConn, FrontRow, NodePart, Sending, Speaks, Station, Stay, Stream, Talk, Verdict, front_rest, is_clear, one_if}
 use Rattle.lard_base.specs.declared.place.Reason.TheVariants as reason
-use Rattle.lard_bound.specs.Seats.{Held, Here, Offered, SeatNow, Waiting, seat_away, seat_decided, seat_in, seat_of, seat_there}
+use Rattle.lard_bound.specs.Seats.{Held, Here, SeatNow, Waiting, seat_away, seat_decided, seat_in, seat_of, seat_there, seat_untaken}
 use Rattle.lard_bound.specs.Units.{Whole, symbols_taken}
 use Rattle.lard_client.specs.declared.phase.Phase.TheVariants as phase
 use Rattle.lard_laws.specs.Acks.{BackActs, FrontActs, FrontStageActs, OpenActs, bounds_of, story_at}
@@ -12,6 +12,7 @@ use Rattle.lard_law_connections.specs.Places.{IsDecided, IsLeft, IsPast}
 use Rattle.lard_handoff_back.specs.declared.row.BackConn.TheVariants as back
 use Rattle.lard_handoff_front.specs.declared.row.FrontConn.TheVariants as stage
 use Rattle.lard_law_settles.proofs.KnownCounting.{one-most, taken-same}
+use Rattle.lard_law_progress.proofs.AnswersFrontSpots.{over-cases, untaken-cases}
 use Rattle.lard_law_progress.proofs.Given.{SeatKnown}
 use Rattle.lard_law_progress.proofs.Seating.{seat-at, seat-none}
 
@@ -114,11 +115,15 @@ module _ (files : FilesAt) (x : Conn) (st : Station) (k : Talk) (pend : List Ver
           (λ (r : RowAgrees k.w k.out k.vs pend k.was_reset x.c q q.row). subst (BackAgrees k.w k.out k.vs pend k.was_reset x.c row.epoch.0 q) eq (subst (RowAgrees k.w k.out k.vs pend k.was_reset x.c q) at r))
           node in
           by-stay b q.stay agrees known.2
-      there row at _ eq = λ known. tt
+      there row at back.Out eq = λ known. tt
+      there row at back.Ended eq = over-cases told n e q Tells (λ known. tt) (λ served known. tt)
+      there row at back.Gone eq = over-cases told n e q Tells (λ known. tt) (λ served known. tt)
 
       decided : (r : Option BackRow) → q.row ≡ r → Tells (seat_decided told n e count q r)
-      decided None at = λ known. tt
-      decided (Some row) at = cond_both (row.epoch.0 == e) (seat_there told n e count q row.stage) (Offered n e count) Tells (λ t. there row at row.stage refl) (λ t known. tt)
+      decided None at = untaken-cases n e count q Tells (λ known. tt) (λ known. tt)
+      decided (Some row) at = cond_both (row.epoch.0 == e) (seat_there told n e count q row.stage) (seat_untaken n e count q) Tells
+          (λ t. there row at row.stage refl)
+          (λ t. untaken-cases n e count q Tells (λ known. tt) (λ known. tt))
 
       away : Tells (seat_away told n e count q)
       away = decided q.row refl

@@ -31,6 +31,7 @@ pub use Rattle.lard_law_settles.proofs.SettlesOrder as Order
 pub use Rattle.lard_law_settles.proofs.SettlesWhole as Whole
 pub use Rattle.lard_law_settles.proofs.RoundsRuns as Rounding
 pub mod KnownAborts
+pub mod KnownReturns
 pub mod KnownSitting
 pub mod KnownCounting
 pub mod KnownKnowing

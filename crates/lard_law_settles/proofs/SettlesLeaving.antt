@@ -6,7 +6,7 @@ use Rattle.std.proofs.lemmas.Bool.{cond_both}
 use Rattle.lard_history.proofs.Seeing.{by_number}
 use Rattle.lard_law_connections.proofs.Forms.{NodeStep, NodesStay, node-form}
 use Rattle.lard_law_view.proofs.Parts.{node-others, node-set}
-use Rattle.lard_law_view.specs.Prelude.{BackIn, Body, Event, Front, Job, Machine, Message, MsgFault, Node, NodeDeed, NodeSetting, NodeState, Out, Place, ToCluster, aside, completed, content_sent, decoded, decoded_message, disk_step, fetched, fetched_file, is_for, job_at, leaves_at, machine_step, machine_told, node_at, node_brought, node_deed, node_env, node_gets, node_hears, node_leaves, node_part, node_read, node_saying, node_setting, node_step, nothing_done, which_leave}
+use Rattle.lard_law_view.specs.Prelude.{BackIn, Body, Event, Front, Job, Machine, Message, MsgFault, Node, NodeDeed, NodeSetting, NodeState, Out, Place, aside, completed, content_sent, decoded_message, disk_step, fetched, fetched_file, is_for, job_at, leaves_at, machine_step, machine_told, node_at, node_brought, node_deed, node_env, node_gets, node_hears, node_leaves, node_part, node_read, node_saying, node_setting, node_step, nothing_done, which_leave}
 use Rattle.lard_message.specs.declared.message.Body.TheVariants as body
 use Rattle.lard_rules.specs.Node.{Drops, Says, Does}
 use Rattle.lard_rules.specs.declared.node.BackIn.TheVariants as back

@@ -15,7 +15,7 @@ use Rattle.lard_law_view.proofs.Carried.{IsOn, carried-keep, on-rules}
 use Rattle.lard_law_view.proofs.Fine.{IsFine, IsItsOwn, fine}
 use Rattle.lard_law_view.proofs.Frames.{Owed, clients-leave, fronts-leave, nodes-leave}
 use Rattle.lard_law_view.proofs.Guarded.{both}
-use Rattle.lard_law_view.proofs.Saying.{GaveAt, NotedAt}
+use Rattle.lard_law_view.proofs.Saying.{GaveAt, NotedAt, NotedIn}
 use Rattle.lard_law_view.proofs.Timers.{IsTimerAt, timer_rows-are, timer_rows-same}
 use Rattle.lard_history.proofs.Each.{Each, Each-append, Each-weaker}
 use Rattle.lard_journal.specs.declared.rec.Rec.TheVariants as rec
@@ -108,8 +108,12 @@ said-named e net place notes segments gave messages timers n g t =
     (Each-append IsNamed (behind e ++ notes) S (Each-append IsNamed (behind e) notes (behind-named e) n) (sents-named (length net + 1) place segments)) g)
     (sents-named (length (net ++ packets_of place segments) + 1) place messages)) t
 
-notes-named : (place : Place) (c : ℕ) (rs : List Rec) → Each (NotedAt place c) rs → AreNamed rs
-notes-named place c rs h = Each-weaker (NotedAt place c) IsNamed (note-named place c) rs h
+in-named : (place : Place) (c : ℕ) (r : Rec) → NotedIn place c r → IsNamed r
+in-named place c r (inl h) = note-named place c r h
+in-named place c r (inr h) = noted-named r (some-noted place r (inr h))
+
+notes-named : (place : Place) (c : ℕ) (rs : List Rec) → Each (NotedIn place c) rs → AreNamed rs
+notes-named place c rs h = Each-weaker (NotedIn place c) IsNamed (in-named place c) rs h
 
 gaves-named : (place : Place) (c : ℕ) (rs : List Rec) → Each (GaveAt place c) rs → AreNamed rs
 gaves-named place c rs h = Each-weaker (GaveAt place c) IsNamed (gave-named place c) rs h

@@ -6,7 +6,7 @@ use Rattle.lard_law_view.specs.Prelude.{Conn, Event, Front, HasRule, IsConnNumbe
 use Rattle.lard_base.specs.declared.event.Event.TheVariants as event
 use Rattle.lard_law_view.proofs.AnyShape.{IsAct, each-act, two-act}
 use Rattle.lard_law_view.proofs.Heads.{ActsAt}
-use Rattle.lard_law_view.proofs.Saying.{NotedAt}
+use Rattle.lard_law_view.proofs.Saying.{NotedIn}
 use Rattle.lard_law_view.proofs.Shapes.{ActsOn, ActsOnEach, ActsOnTwo, AreRising, IsMover, Mover, Shapes, both_out, each_out, move_of, mover_move, with_rest}
 use Rattle.lard_law_view.proofs.Stepping.{step-has}
 use Rattle.lard_history.proofs.Each.{Each}
@@ -25,7 +25,7 @@ pub record Moves (P : Conn → Move → Type 0) (m : Machine) (e : Event) (c : �
   pub does : P (conn m c) move
   pub event : Each (IsHead e) move.heads
   pub came : Each (IsDelivered m.net e) move.heads
-  pub notes : Each (NotedAt move.place c) noted
+  pub notes : Each (NotedIn move.place c) noted
   pub seen : (net : List Packet) → seen_on c net noted ≡ map Row move.said.notes
 
 -- It moves alone, and its move's records stand behind those of the event.

@@ -9,8 +9,8 @@ use Rattle.lard_base.specs.declared.event.Event.TheVariants as event
 use Rattle.lard_law_view.proofs.Fine.{IsFine, fine}
 use Rattle.lard_law_view.proofs.Heads.{ActsAt, Begins}
 use Rattle.lard_law_view.proofs.RecordKinds.{IsNote, IsOfPlace, any-kind, kind_of}
-use Rattle.lard_law_view.proofs.Saying.{AllBetween, AreMessages, GaveAt, IsStill, NotedAt, messages-between, note-kind}
-use Rattle.lard_law_view.proofs.Shapes.{ActsOn, ActsOnEach, ActsOnTwo, IsMover, IsNobodyAt, IsPut, IsUnheardAt, Mover, NamesNobody, Shapes, both_out, each_out}
+use Rattle.lard_law_view.proofs.Saying.{AllBetween, AreMessages, GaveAt, IsStill, NamesNobody, NotedAt, NotedIn, messages-between, nobody-kind, nobody-seen, note-kind}
+use Rattle.lard_law_view.proofs.Shapes.{ActsOn, ActsOnEach, ActsOnTwo, ClosesBehind, IsMover, IsNobodyAt, IsPut, IsUnheardAt, Mover, Shapes, both_out, each_out}
 use Rattle.lard_law_view.proofs.Stepping.{step-has}
 use Rattle.lard_law_view.proofs.Timers.{IsTimerAt, timer_rows-are}
 use Rattle.lard_history.proofs.Each.{Each, Each-append, Each-weaker}
@@ -41,7 +41,7 @@ pub record IsAct (m w : Machine) (e : Event) (place : Place) (o : Out) : Type 0 
   pub acts : ActsAt m.net e place
   pub first : HasOwn e (behind e ++ o.notes)
   pub notes : Each (SomeNote place) o.notes
-  pub closes : IsDrain e ⊎ Each IsNoClosing o.notes
+  pub closes : IsDrain e ⊎ (((c : ℕ) × ClosesBehind m e c o.notes) ⊎ Each IsNoClosing o.notes)
   pub segments : Each (SomeSent place) o.segments
   pub gave : Each (SomeGift place) o.gave
   pub messages : Each (SomeSent place) o.messages
@@ -50,20 +50,10 @@ pub record IsAct (m w : Machine) (e : Event) (place : Place) (o : Out) : Type 0 
 
 -- ---- notes that name nobody
 
-nobody-kind : (place : Place) (r : Rec) → NamesNobody place r → IsOfPlace place (kind_of r)
-nobody-kind Front (rec.Closed n) h = tt
-nobody-kind (Node n) (rec.Hit k path) h = tt
-nobody-kind _ _ h = absurd h
-
 -- of what kind a note is
 pub some-kind : (place : Place) (r : Rec) → SomeNote place r → IsOfPlace place (kind_of r)
 some-kind place r (inl h) = note-kind place h.0 r h.2
 some-kind place r (inr h) = nobody-kind place r h
-
-nobody-seen : (place : Place) (q : ℕ) (net : List Packet) (r : Rec) → NamesNobody place r → seen_of q net r ≡ []
-nobody-seen Front q net (rec.Closed n) h = refl
-nobody-seen (Node n) q net (rec.Hit k path) h = refl
-nobody-seen _ q net _ h = absurd h
 
 nobody-counts : (place : Place) (n : ℕ) (r : Rec) → NamesNobody place r → answered_step n r ≡ n
 nobody-counts Front n (rec.Closed i) h = refl
@@ -72,16 +62,6 @@ nobody-counts _ n _ h = absurd h
 
 pub some-noted : (place : Place) (r : Rec) → SomeNote place r → IsNote r
 some-noted place r h = any-kind place (kind_of r) (some-kind place r h)
-
--- what is noted of a connection closes no node
-note-closing : (place : Place) (c : ℕ) (r : Rec) → NotedAt place c r → IsNoClosing r
-note-closing Front c (rec.Closed n) h = absurd h
-note-closing (Node k) c (rec.Closed n) h = absurd h
-note-closing (Client d) c (rec.Closed n) h = absurd h
-note-closing _ c _ h = tt
-
-notes-closing : (place : Place) (c : ℕ) (rs : List Rec) → Each (NotedAt place c) rs → Each IsNoClosing rs
-notes-closing place c rs h = Each-weaker (NotedAt place c) IsNoClosing (note-closing place c) rs h
 
 pub none-seen : (place : Place) (q : ℕ) (net : List Packet) (rs : List Rec) → Each (NamesNobody place) rs → seen_on q net rs ≡ []
 none-seen place q net [] h = refl
@@ -93,8 +73,8 @@ none-counts place n (r ∷ rs) h = ap (λ k. fold answered_step k rs) (nobody-co
 
 -- ---- of one connection
 
-some-notes : (place : Place) (c : ℕ) (rs : List Rec) → IsConnNumber c → Each (NotedAt place c) rs → Each (SomeNote place) rs
-some-notes place c rs number h = Each-weaker (NotedAt place c) (SomeNote place) (λ r k. inl (c, number, k)) rs h
+some-notes : (place : Place) (c : ℕ) (rs : List Rec) → IsConnNumber c → Each (NotedIn place c) rs → Each (SomeNote place) rs
+some-notes place c rs number h = Each-weaker (NotedIn place c) (SomeNote place) (λ r k. ⊎_elim (λ (n : NotedAt place c r). inl (c, number, n)) (λ (n : NamesNobody place r). inr n) k) rs h
 
 some-gifts : (place : Place) (c : ℕ) (rs : List Rec) → Each (GaveAt place c) rs → Each (SomeGift place) rs
 some-gifts place c rs h = Each-weaker (GaveAt place c) (SomeGift place) (λ r k. (c, k)) rs h
@@ -135,7 +115,7 @@ module _ (m w : Machine) (e : Event) where
     acts = act.begins.acts;
     first = act.first;
     notes = some-notes place c o.notes act.number act.said.notes;
-    closes = inr (notes-closing place c o.notes act.said.notes);
+    closes = inr (⊎_elim (λ (b : ClosesBehind m e c _). inl (c, b)) (λ none. inr none) act.closes);
     segments = some-sents place c o.segments act.number act.said.segments;
     gave = some-gifts place c o.gave act.said.gave;
     messages = some-messages place c o.messages act.number act.said.messages;
@@ -150,8 +130,7 @@ module _ (m w : Machine) (e : Event) where
     uncounted = act.begins.uncounted;
     acts = act.begins.acts;
     first = act.first;
-    closes = inr (each-three IsNoClosing a.notes b.notes z.notes (notes-closing Front c a.notes act.said.notes) (notes-closing Front d b.notes act.said_too.notes)
-        (notes-closing Front c z.notes act.said_rest.notes));
+    closes = inr (⊎_elim (λ (b : ClosesBehind m e c _). inl (c, b)) (λ none. inr none) act.closes);
     notes = each-three (SomeNote Front) a.notes b.notes z.notes (some-notes Front c a.notes act.number act.said.notes) (some-notes Front d b.notes act.number_too act.said_too.notes)
         (some-notes Front c z.notes act.number act.said_rest.notes);
     segments = each-three (SomeSent Front) a.segments b.segments z.segments (some-sents Front c a.segments act.number act.said.segments)
@@ -178,7 +157,7 @@ module _ (m w : Machine) (e : Event) where
         acts = any.acts;
         first = act.first;
         notes = Each-weaker (NamesNobody place) (SomeNote place) (λ r h. inr h) notes act.nobody;
-        closes = act.closes;
+        closes = ⊎_elim (λ (d : IsDrain e). inl d) (λ (none : Each IsNoClosing notes). inr (inr none)) act.closes;
         segments = tt;
         gave = each-flat (SomeGift place) (λ x. x.gave) xs (Each-weaker (IsMover m w place) (λ x. Each (SomeGift place) x.gave) (λ x h. some-gifts place x.c x.gave h.gave) xs act.movers);
         messages = each-flat (SomeSent place) (λ x. x.messages) xs

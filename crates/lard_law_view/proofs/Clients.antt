@@ -1,12 +1,12 @@
 -- What a client does in its turn is an act on its connection.
-use Rattle.std.proofs.Common.{◌≡◌, ℕ, Bool, List, [], refl, ap, ◌++◌}
+use Rattle.std.proofs.Common.{◌≡◌, ℕ, Bool, List, [], refl, ap, ◌++◌, inr}
 use Rattle.std.specs.FinMap as table
 use Rattle.lard_law_view.specs.Prelude.{Client, ClientBlock, Conn, Event, IsConnNumber, Machine, Move, Rec, Seen, Station, Turn, by_client, client_acted, client_put, conn, is_client_armed, out_of, part_of, station_armed, timer_change, timer_rows, with_station}
 use Rattle.lard_law_view.proofs.Heads.{Begins}
 use Rattle.lard_law_view.proofs.Parts.{client-mine, client-others}
-use Rattle.lard_law_view.proofs.Saying.{NotedAt, notes-all}
+use Rattle.lard_law_view.proofs.Saying.{NotedAt, notes-all, notes-closing}
 use Rattle.lard_law_view.proofs.Shapes.{Shapes}
-use Rattle.lard_law_view.proofs.Turned.{IsSaid, client-segments}
+use Rattle.lard_law_view.proofs.Turned.{IsSaid, client-segments, said-in}
 use Rattle.lard_history.proofs.Each.{Each-weaker}
 use Rattle.lard_journal.specs.declared.rec.Rec.TheVariants as rec
 use Rattle.lard_law_view.proofs.Firsts.{HasOwn}
@@ -44,8 +44,9 @@ module _ (m : Machine) (P : Conn → Move → Type 0) (Q : Event → Machine →
         put = record { config = refl; files = refl; net = refl; journal = refl; events = refl; answered = refl; now = refl; nodes = refl; jobs = λ h. h };
         number = number;
         begins = begins;
-        said = said;
+        said = said-in (Client c) c given.1.notes given.1.segments [] [] given.1.answered said;
         first = first;
+        closes = inr (notes-closing (Client c) c given.1.notes said.notes);
         notes = λ net. notes-all (Client c) c net given.1.notes tt said.notes;
         timers = ap (λ b. timer_change (Client c) c b (is_client_armed given.0)) timer;
         mine = client-mine m c s;

@@ -1,7 +1,7 @@
 -- One lemma for all rules of the front end, in place of one for each, by what comes to it: as `EachNode` has it for a node.
-use Rattle.std.proofs.Common.{◌≡◌, ℕ, List, [], Some, Result, refl, sym, subst}
+use Rattle.std.proofs.Common.{List, Option, Result, Some, ℕ, [], refl, subst, sym, ◌≡◌}
 use Rattle.lard_base.specs.declared.event.Event.TheVariants as event
-use Rattle.lard_law_view.specs.Prelude.{Ask, AskedBy, Body, Client, Conn, EndedBy, Final, FirstChoice, Front, FrontAdmits, FrontEnv, FrontFires, FrontGets, FrontHears, FrontPart, FrontRules, FrontTurn, IsFrontEnv, Move, Node, Place, Said, Seen, SegFault, Setting, SpellsMessage, Station, TakenBy, ToCluster, Was, ask_of, decoded, event_seen, front_admitted, front_does, front_rule, packet_seen}
+use Rattle.lard_law_view.specs.Prelude.{Ask, AskedBy, Body, Client, Conn, EndedBy, EndpointParts, Final, FirstChoice, Front, FrontAdmits, FrontEnv, FrontFires, FrontGets, FrontHears, FrontPart, FrontRules, FrontTurn, IsFrontEnv, Move, Node, Place, ReturnedBy, Said, Seen, SegFault, Setting, SpellsMessage, Station, TakenBy, ToCluster, Was, ask_of, back_body, decoded, event_seen, front_admitted, front_does, front_rule, packet_seen}
 use Rattle.lard_message.specs.declared.message.Body.TheVariants as body
 use Rattle.lard_rules.proofs.FrontCases.{IsAsGiven}
 
@@ -41,6 +41,10 @@ pub record HasEnd (x : Conn) (from epoch : ℕ) (last : Final) (heads : List See
   pub count : ℕ
   pub told : HasTold x from epoch (body.Ended last.reason last.snd.0 last.rcv.0 count) heads
 
+-- it comes back from this node
+abbrev pub HasBack : Conn → ℕ → ℕ → Option EndpointParts → List Seen → Type 0
+HasBack x from epoch given heads = HasTold x from epoch (back_body given) heads
+
 -- it is the head of the line, and this comes of it
 pub record HasTurn (x : Conn) (env : FrontEnv) (choice : FirstChoice) (given : FrontPart × FrontTurn) (heads : List Seen) : Type 0 where
   pub is : front_admitted env x.part.front choice ≡ Some given
@@ -53,6 +57,7 @@ FrontComes x env heads FrontFires = HasRung x heads
 FrontComes x env heads (TakenBy from epoch) = HasTold x from epoch body.Taken heads
 FrontComes x env heads (AskedBy from epoch ask) = HasAsk x from epoch ask heads
 FrontComes x env heads (EndedBy from epoch last) = HasEnd x from epoch last heads
+FrontComes x env heads (ReturnedBy from epoch given) = HasBack x from epoch given heads
 FrontComes x env heads (FrontAdmits choice given) = HasTurn x env choice given heads
 
 -- ---- all rules by this
@@ -74,6 +79,8 @@ module _ (k : Setting) (P : Conn → Move → Type 0) where
     ended = λ x env n epoch reason snd rcv count bytes is spells was. e x env (packet_seen (Node n) Front bytes)
         (EndedBy n epoch (record { reason = reason; snd = record { 0 = snd }; rcv = record { 0 = rcv } })) is
         (record { count = count; told = record { bytes = bytes; spells = spells; was = was; seen = refl } });
+    returned = λ x env n epoch given bytes is spells was. e x env (packet_seen (Node n) Front bytes) (ReturnedBy n epoch given) is
+        (record { bytes = bytes; spells = spells; was = was; seen = refl });
     admitted = λ x env choice given is e_is. e x env [] (FrontAdmits choice given) is (record { is = e_is; seen = refl });
   }
 

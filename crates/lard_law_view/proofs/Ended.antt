@@ -1,4 +1,5 @@
 -- Where a connection ended at its node, the front end acts on it, and on the head of the line as well where that is admitted.
+use Rattle.lard_history.proofs.Each.{Each, Each-append}
 use Rattle.std.proofs.Common.{◌≡◌, ◌≢◌, ℕ, ◌+◌, nat_lt, Bool, true, false, cond, List, [], ◌++◌, Option, Some, None, refl, sym, ap, ◌∙◌, subst, inl, inr, append-nil, arith}
 use Rattle.std.specs.Prelude.{◌⊎◌}
 use Rattle.lard_law_view.specs.Prelude.{AreOwn, Conn, Did, Event, Final, FirstChoice, Front, FrontDeed, FrontEnv, FrontPart, FrontRow, FrontState, FrontTurn, IsConnNumber, IsViewed, Machine, Move, OnEnded, Out, Rec, Rules, Seen, admits, admits_too, conn, end_answer, ended_answer, ended_deed, front_admitted, front_does, front_ended, front_ended_by, front_env, front_gave, front_joined, front_out_of, front_part, front_put, front_setting, front_timers, in_order, machine_told, nothing_done, part_of, put_back, seen_on, setting_of, timer_rows, with_front}
@@ -7,20 +8,20 @@ use Rattle.lard_law_view.proofs.Fronts.{IsAdmission, IsFrontDeed, admitted-turn}
 use Rattle.lard_law_view.proofs.Heads.{Begins}
 use Rattle.lard_law_view.proofs.Numbers.{row-number}
 use Rattle.lard_law_view.proofs.Parts.{front-mine, front-others}
-use Rattle.lard_law_view.proofs.Saying.{notes-all, notes-other}
-use Rattle.lard_law_view.proofs.Shapes.{Shapes, both_out, move_of, with_rest}
-use Rattle.lard_law_view.proofs.Turned.{sent-messages}
+use Rattle.lard_law_view.proofs.Saying.{notes-all, notes-closing, notes-other}
+use Rattle.lard_law_view.proofs.Shapes.{ReadsOn, Shapes, both_out, move_of, with_rest}
+use Rattle.lard_law_view.proofs.Turned.{notes-in, said-in, sent-messages}
 use Rattle.lard_rules.specs.Front.{Drops, Says, Does}
 use Rattle.lard_rules.proofs.FrontParts.{part_other, part_put}
 use Rattle.lard_handoff_front.specs.declared.table.OnEnded.TheVariants.{New, Again, Stale}
 use Rattle.lard_law_view.proofs.Firsts.{others_append}
-use Rattle.lard_law_view.proofs.OwnRecords.{behind}
+use Rattle.lard_law_view.proofs.OwnRecords.{IsNoClosing, behind}
 
 -- ---- what ended does not wait
 
--- the connection is not admitted as it is left
+-- the connection is not admitted as it is left, and nothing was read on
 abbrev pub IsLeft : Did → Type 0
-IsLeft x = (env : FrontEnv) (choice : FirstChoice) → front_admitted env x.part choice ≡ None
+IsLeft x = ((env : FrontEnv) (choice : FirstChoice) → front_admitted env x.part choice ≡ None) × Each (λ r. ReadsOn r → ⊥) x.turn.notes
 
 abbrev pub Leaves : FrontDeed → Type 0
 Leaves Drops = Unit {0}
@@ -29,7 +30,7 @@ Leaves (Does x) = IsLeft x
 
 ended_by-leaves : (env : FrontEnv) (p : FrontPart) (from epoch : ℕ) (last : Final) (o : Option FrontRow) (given : OnEnded) → Leaves (front_ended_by env p from epoch last o given)
 ended_by-leaves env p from epoch last None given = tt
-ended_by-leaves env p from epoch last (Some row) (New next) = λ env choice. refl
+ended_by-leaves env p from epoch last (Some row) (New next) = ((λ env choice. refl), ((λ h. h), ((λ h. h), tt)))
 ended_by-leaves env p from epoch last (Some row) Again = tt
 ended_by-leaves env p from epoch last (Some row) Stale = tt
 
@@ -37,7 +38,7 @@ pub ended-leaves : (env : FrontEnv) (p : FrontPart) (from epoch : ℕ) (last : F
 ended-leaves env p from epoch last = ended_by-leaves env p from epoch last p.row (end_answer epoch p.row)
 
 -- the head of the line has a row
-admitted-row : (env : FrontEnv) (p : FrontPart) (choice : FirstChoice) (y : FrontPart × FrontTurn) → front_admitted env p choice ≡ Some y → (row : FrontRow) × (p.row ≡ Some row)
+pub admitted-row : (env : FrontEnv) (p : FrontPart) (choice : FirstChoice) (y : FrontPart × FrontTurn) → front_admitted env p choice ≡ Some y → (row : FrontRow) × (p.row ≡ Some row)
 admitted-row env p choice y e = go p.row refl where
   go : (o : Option FrontRow) → p.row ≡ o → (row : FrontRow) × (p.row ≡ Some row)
   go None is = let no : ◌≡◌ {A = Option (FrontPart × FrontTurn)} None (Some y) = ap (λ (o : Option FrontRow). front_admitted env (record p { row = o }) choice) (sym is) ∙ e in absurd cc
@@ -87,7 +88,7 @@ module _ (m : Machine) (view : IsViewed m) (P : Conn → Move → Type 0) (R : R
     apart : (d : ℕ) (env : FrontEnv) (choice : FirstChoice) (y : FrontPart × FrontTurn) → front_admitted env (front_part s d) choice ≡ Some y → d ≢ c
     apart d env choice y e same =
         let p : front_part s d ≡ x.part = ap (front_part s) same ∙ part_put m.front c x.part in
-        let no : ◌≡◌ {A = Option (FrontPart × FrontTurn)} None (Some y) = sym (is_left env choice) ∙ ap (λ (p : FrontPart). front_admitted env p choice) (sym p) ∙ e in absurd cc
+        let no : ◌≡◌ {A = Option (FrontPart × FrontTurn)} None (Some y) = sym (is_left.0 env choice) ∙ ap (λ (p : FrontPart). front_admitted env p choice) (sym p) ∙ e in absurd cc
 
     -- the head is admitted as well
     admitted : (d : ℕ) (choice : FirstChoice) (y : FrontPart × FrontTurn) → front_admitted (front_env (front_setting m) s d 0) (front_part s d) choice ≡ Some y
@@ -119,11 +120,14 @@ module _ (m : Machine) (view : IsViewed m) (P : Conn → Move → Type 0) (R : R
             x.turn.notes ++ y.1.notes ++ [],
             refl,
             own,
-            others_append (x.turn.notes ++ y.1.notes) [] (others_append x.turn.notes y.1.notes (notes-other Front c x.turn.notes tt of.0.notes) (notes-other Front d y.1.notes tt admission.0.notes)) refl,
+            others_append (x.turn.notes ++ y.1.notes) [] (others_append x.turn.notes y.1.notes (notes-other Front c x.turn.notes tt (notes-in Front c x.turn.notes of.0.notes)) (notes-other Front d y.1.notes tt (notes-in Front d y.1.notes admission.0.notes))) refl,
           );
-          said = of.0;
-          said_too = admission.0;
+          closes = inr (Each-append IsNoClosing (x.turn.notes ++ y.1.notes) []
+              (Each-append IsNoClosing x.turn.notes y.1.notes (notes-closing Front c x.turn.notes of.0.notes) (notes-closing Front d y.1.notes admission.0.notes)) tt);
+          said = said-in Front c x.turn.notes x.turn.segments x.turn.gave x.turn.messages x.turn.answered of.0;
+          said_too = said-in Front d y.1.notes y.1.segments y.1.gave y.1.messages 0 admission.0;
           said_rest = record { notes = tt; segments = tt; gave = tt; messages = tt; counted = λ n. omega arith };
+          before = is_left.1;
           reads_on = tt;
           notes = λ net. ap (seen_on c net) (append-nil x.turn.notes) ∙ notes-all Front c net x.turn.notes tt of.0.notes;
           notes_too = λ net. notes-all Front d net y.1.notes tt admission.0.notes;

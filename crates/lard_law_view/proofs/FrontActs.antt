@@ -1,10 +1,11 @@
 -- What the front end does by a rule is an act on the rule's connection, and where one ended, perhaps on the head of the line.
-use Rattle.std.proofs.Common.{ℕ, List, [], refl, sym, arith}
+use Rattle.lard_law_view.proofs.Turned.{notes-in, said-in}
+use Rattle.std.proofs.Common.{ℕ, List, [], refl, sym, arith, inr}
 use Rattle.lard_law_view.specs.Prelude.{AreOwn, Conn, Event, Front, FrontDeed, FrontState, FrontTurn, IsConnNumber, Machine, Move, Seen, conn, front_deed, front_does, front_gave, front_out_of, front_part, front_timers, part_of, put_back, timer_rows}
 use Rattle.lard_law_view.proofs.Fronts.{IsFrontDeed, IsFrontTurn}
 use Rattle.lard_law_view.proofs.Heads.{Begins}
 use Rattle.lard_law_view.proofs.Parts.{front-mine, front-others}
-use Rattle.lard_law_view.proofs.Saying.{notes-all, own-first}
+use Rattle.lard_law_view.proofs.Saying.{notes-all, notes-closing, own-first}
 use Rattle.lard_law_view.proofs.Shapes.{IsPut, Shapes}
 use Rattle.lard_law_view.proofs.Timers.{timer_rows-same}
 use Rattle.lard_rules.specs.Front.{Drops, Says, Does}
@@ -23,8 +24,9 @@ module _ (m : Machine) (P : Conn → Move → Type 0) (Q : Event → Machine →
         put = front-put m m.front;
         number = number;
         begins = begins;
-        said = of;
-        first = own-first e Front c t.notes tt own of.notes;
+        said = said-in Front c t.notes t.segments t.gave t.messages t.answered of;
+        first = own-first e Front c t.notes tt own (notes-in Front c t.notes of.notes);
+        closes = inr (notes-closing Front c t.notes of.notes);
         notes = λ net. notes-all Front c net t.notes tt of.notes;
         timers = sym (timer_rows-same Front c (part_of m c));
         mine = refl;
@@ -41,8 +43,9 @@ module _ (m : Machine) (P : Conn → Move → Type 0) (Q : Event → Machine →
         put = front-put m (put_back m.front c x);
         number = number;
         begins = begins;
-        said = of.0;
-        first = own-first e Front c x.turn.notes tt own of.0.notes;
+        said = said-in Front c x.turn.notes x.turn.segments x.turn.gave x.turn.messages x.turn.answered of.0;
+        first = own-first e Front c x.turn.notes tt own (notes-in Front c x.turn.notes of.0.notes);
+        closes = inr (notes-closing Front c x.turn.notes of.0.notes);
         notes = λ net. notes-all Front c net x.turn.notes tt of.0.notes;
         timers = refl;
         mine = front-mine m (put_back m.front c x) c x.part (part_put m.front c x.part);

@@ -1,9 +1,9 @@
 -- What each rule of the front end says is of its connection.
-use Rattle.std.proofs.Common.{◌≡◌, ℕ, ◌+◌, Bool, true, false, List, [], ◌∷◌, length, map, Option, Some, None, Result, Ok, Err, refl, sym, ap, ◌∙◌, subst, arith, inl}
+use Rattle.std.proofs.Common.{◌≡◌, ℕ, ◌+◌, Bool, true, false, List, [], ◌∷◌, length, map, Option, Some, None, Result, Ok, Err, refl, sym, ap, ◌∙◌, subst, arith, inl, ◌++◌}
 use Rattle.std.proofs.lemmas.Bool.{cond_both}
 use Rattle.std.proofs.lemmas.List.Sums.{fold-append}
 use Rattle.std.specs.List.{fold}
-use Rattle.lard_law_view.specs.Prelude.{Ask, ControlBlock, Ending, Epoch, Final, FirstChoice, Found, Front, FrontDeed, FrontEnv, FrontGets, FrontPart, FrontRest, FrontRow, FrontTurn, IsConnNumber, Later, LaterChoice, Place, Reading, Rec, Said, SegFault, Service, Step, Turn, Verdict, ack_sent, answered_step, assigned_notes, assigns, block_at, cut_of, forwarded, front_admitted, front_asked, front_ended, front_fired, front_gets, front_reads, front_rest, front_rule, front_saying, front_taken, front_timer, good_path, handed_off, holds, last_words, may_freeze, may_read, on_segment, over_note, placed, reading_left, reading_turn, reads_block, reads_found, sent_of, serving, serving_consumed, serving_ready_of, serving_settled, spoken, tag_sent, targeted, tombstone, turn_here, waits_on}
+use Rattle.lard_law_view.specs.Prelude.{Ask, ControlBlock, Ending, EndpointParts, Epoch, Final, FirstChoice, Found, Front, FrontDeed, FrontEnv, FrontGets, FrontPart, FrontRest, FrontRow, FrontTurn, IsConnNumber, Later, LaterChoice, Place, Reading, Rec, Said, SegFault, ServeEnv, Service, Step, Turn, Verdict, ack_sent, answered_step, assigned_notes, assigns, back_rest, block_at, cut_of, does_first, forwarded, front_admitted, front_asked, front_ended, front_fired, front_gets, front_reads, front_rest, front_rule, front_saying, front_taken, front_timer, given_sent, good_path, handed_off, holds, last_words, may_freeze, may_read, offer_kept, on_segment, over_note, placed, reading_left, reading_turn, reads_block, reads_found, returned_row, sent_of, serving, serving_consumed, serving_ready_of, serving_settled, spoken, stands_first, tag_sent, targeted, tombstone, turn_here, waits_on, without}
 use Rattle.lard_base.specs.declared.place.TimerKind.TheVariants as kind
 use Rattle.lard_base.specs.declared.place.Via.TheVariants.{Own}
 use Rattle.lard_block.specs.declared.block.Found.TheVariants.{Block, More, TooLong}
@@ -13,6 +13,7 @@ use Rattle.lard_dispatch.specs.declared.dispatch.First.TheVariants as first
 use Rattle.lard_endpoint.specs.Leaving as leaving
 use Rattle.lard_rules.specs.Front.{Drops, Says, Does}
 use Rattle.lard_history.proofs.Each.{Each, Each-append}
+use Rattle.lard_history.proofs.Seeing.{has-behind}
 use Rattle.lard_journal.specs.declared.rec.Rec.TheVariants as rec
 use Rattle.lard_message.specs.declared.message.Body.TheVariants as body
 use Rattle.lard_request.specs.declared.verdict.Code.TheVariants as code
@@ -23,7 +24,7 @@ use Rattle.lard_rules.proofs.Runs.{runs_keep}
 use Rattle.lard_law_view.proofs.EndpointSends as endpoints
 use Rattle.lard_law_view.proofs.PlaceTurns as turns
 use Rattle.lard_law_view.proofs.PlaceTurns.{AreNoted, IsServingTurn, NotesServing}
-use Rattle.lard_rules.proofs.FrontCases.{IsAsGiven, front-keeps, KeptByTimer, KeptByFront, KeptBySegment, begun_row, begun_service, heard_reading, heard_service, waiting_service, segment-keeps, timer-keeps, taken-keeps, asked-keeps, ended-keeps, admitted-keeps}
+use Rattle.lard_rules.proofs.FrontCases.{IsAsGiven, KeptByFront, KeptByReturn, KeptBySegment, KeptByTimer, admitted-keeps, asked-keeps, back_reading, begun_row, begun_service, ended-keeps, front-keeps, heard_reading, heard_service, segment-keeps, taken-keeps, timer-keeps, waiting_service}
 
 -- A turn is of connection c.
 abbrev pub IsFrontTurn : ℕ → FrontTurn → Type 0
@@ -38,6 +39,37 @@ IsFrontDeed c p (Does x) = IsFrontTurn c x.turn × AreHeld x.turn.messages p.kep
 -- So is that of an admission, which answers nothing.
 abbrev pub IsAdmission : ℕ → FrontPart → FrontPart × FrontTurn → Type 0
 IsAdmission c p given = IsSaid Front c given.1.notes given.1.segments given.1.gave given.1.messages 0 × AreHeld given.1.messages p.kept given.0.kept
+
+-- What is noted while requests are read is noted for each that is answered.
+module _ (serve : ServeEnv) (N : Rec → Type 0) (noting : NotesServing serve N) where
+  abbrev NotedBy : Service → Type 0
+  NotedBy w = AreNoted serve N noting w
+
+  abbrev NotedStep : Step Reading → Type 0
+  NotedStep (loop.More y) = NotedBy y.service
+  NotedStep (loop.Done y) = NotedBy y.service
+
+  targeted-noted : (path : List ℕ) (x : Reading) → NotedBy x.service → NotedBy (targeted path x).service
+  targeted-noted path x h = cond_both (may_freeze x.service.block) (record x { target = Some path }) x (λ y. NotedBy y.service) (λ t. h) (λ t. h)
+
+  block-noted : (x : Reading) (n : ℕ) (v : Verdict) (o : Option (List ℕ)) → NotedBy x.service → NotedStep (reads_block serve x n v o)
+  block-noted x n v None h = turns.answered-noted serve N noting Own v (serving_consumed n x.service) h
+  block-noted x n v (Some path) h = targeted-noted path x h
+
+  found-noted : (x : Reading) (f : Found) → NotedBy x.service → NotedStep (reads_found serve x f)
+  found-noted x (More skip) h = turns.ended-noted serve N noting (serving_consumed skip x.service) h
+  found-noted x (Block skip len) h = block-noted x (skip + len) (block_at x skip len) (good_path serve.files (block_at x skip len)) h
+  found-noted x (TooLong skip) h = turns.answered-noted serve N noting Own (Fault code.FieldsTooLarge) (serving_consumed (length x.service.block.recv.unread) x.service) h
+
+  turn-noted : (x : Reading) → NotedBy x.service → NotedStep (reading_turn serve x)
+  turn-noted x h = cond_both (may_read x.service) (reads_found serve x (cut_of x.service.block.recv.unread)) (loop.Done x) NotedStep
+      (λ t. found-noted x (cut_of x.service.block.recv.unread) h) (λ t. h)
+
+  pub reads-noted : (x : Reading) → NotedBy x.service → NotedBy (front_reads serve x).service
+  reads-noted x h = runs_keep (reading_turn serve) reading_left (λ y. NotedBy y.service) (record {
+    more = λ y z e p. subst NotedStep e (turn-noted y p);
+    done = λ y z e p. subst NotedStep e (turn-noted y p);
+  }) x h
 
 -- The front end acts on connection c, whose number is one, and what it holds of it goes to nodes.
 module _ (env : FrontEnv) (own : env.serve.place ≡ Front) (number : IsConnNumber env.serve.c) where
@@ -61,34 +93,6 @@ module _ (env : FrontEnv) (own : env.serve.place ≡ Front) (number : IsConnNumb
 
   said-turn : (messages : List (Place × List ℕ)) → AreMessages env.serve.c Front messages → IsOfFront (front_saying messages)
   said-turn messages of = record { notes = tt; segments = tt; gave = tt; messages = of; counted = λ n. omega arith }
-
-  -- ---- reading
-
-  abbrev NotedIn : Step Reading → Type 0
-  NotedIn (loop.More y) = Noted y.service
-  NotedIn (loop.Done y) = Noted y.service
-
-  targeted-noted : (path : List ℕ) (x : Reading) → Noted x.service → Noted (targeted path x).service
-  targeted-noted path x h = cond_both (may_freeze x.service.block) (record x { target = Some path }) x (λ y. Noted y.service) (λ t. h) (λ t. h)
-
-  block-noted : (x : Reading) (n : ℕ) (v : Verdict) (o : Option (List ℕ)) → Noted x.service → NotedIn (reads_block env.serve x n v o)
-  block-noted x n v None h = turns.answered-noted env.serve N noting Own v (serving_consumed n x.service) h
-  block-noted x n v (Some path) h = targeted-noted path x h
-
-  found-noted : (x : Reading) (f : Found) → Noted x.service → NotedIn (reads_found env.serve x f)
-  found-noted x (More skip) h = turns.ended-noted env.serve N noting (serving_consumed skip x.service) h
-  found-noted x (Block skip len) h = block-noted x (skip + len) (block_at x skip len) (good_path env.serve.files (block_at x skip len)) h
-  found-noted x (TooLong skip) h = turns.answered-noted env.serve N noting Own (Fault code.FieldsTooLarge) (serving_consumed (length x.service.block.recv.unread) x.service) h
-
-  turn-noted : (x : Reading) → Noted x.service → NotedIn (reading_turn env.serve x)
-  turn-noted x h = cond_both (may_read x.service) (reads_found env.serve x (cut_of x.service.block.recv.unread)) (loop.Done x) NotedIn
-      (λ t. found-noted x (cut_of x.service.block.recv.unread) h) (λ t. h)
-
-  reads-noted : (x : Reading) → Noted x.service → Noted (front_reads env.serve x).service
-  reads-noted x h = runs_keep (reading_turn env.serve) reading_left (λ y. Noted y.service) (record {
-    more = λ y z e p. subst NotedIn e (turn-noted y p);
-    done = λ y z e p. subst NotedIn e (turn-noted y p);
-  }) x h
 
   -- nothing was noted yet
   fresh : (b : ControlBlock) (count : ℕ) → Noted (serving b count [])
@@ -150,7 +154,7 @@ module _ (env : FrontEnv) (own : env.serve.place ≡ Front) (number : IsConnNumb
     by-segment bytes s = record {
       drops = tt;
       begins = λ none plain. holds-deed begun_row (front_rest None) (spoken env.serve (begun_service env s) []) (turns.spoken-turn env.serve N noting (begun_service env s) [] tt ((refl, tt), λ n. omega arith));
-      reads = λ row b at. reads-noted (heard_reading p b s) (fresh (on_segment b s).1 (front_rest p.rest).count);
+      reads = λ row b at. reads-noted env.serve N noting (heard_reading p b s) (fresh (on_segment b s).1 (front_rest p.rest).count);
       holds = λ row b w at h. holds-deed row (front_rest p.rest) (serving_settled env.serve w) (turns.settled-turn env.serve N noting w h);
       hands = λ row b w path choice at h is. handed-turn row w path choice h;
       waits = λ row b w path at h is. waiting-deed row w path h;
@@ -228,6 +232,27 @@ module _ (env : FrontEnv) (own : env.serve.place ≡ Front) (number : IsConnNumb
       drop_all (HeldBy (ack_sent env from epoch) p.kept) kind.Offer 0 p.kept (as-before (ack_sent env from epoch)),
     ))
 
+    -- ---- a connection that comes back
+
+    givens : (from epoch : ℕ) (given : Option EndpointParts) → AreMessages env.serve.c Front (given_sent env.serve.c from epoch given)
+    givens from epoch None = tt
+    givens from epoch (Some parts) = ((tt, spelled env.serve.c epoch body.Given number), tt)
+
+    -- behind messages of its own a deed is as it is without them
+    first-turn : (said : List (Place × List ℕ)) (t : FrontTurn) → AreMessages env.serve.c Front said → IsOfFront t → IsOfFront (stands_first [] said t)
+    first-turn said t of h = record { notes = h.notes; segments = h.segments; gave = h.gave; messages = Each-append _ said t.messages of h.messages; counted = h.counted }
+
+    left : (messages : List (Place × List ℕ)) → AreHeld messages p.kept (without kind.Offer 0 p.kept)
+    left messages = drop_all (HeldBy messages p.kept) kind.Offer 0 p.kept (as-before messages)
+
+    by-return : (said : List (Place × List ℕ)) (row : FrontRow) (parts : EndpointParts) → AreMessages env.serve.c Front said → KeptByReturn env p said row parts (λ w o. Noted w) IsDeed
+    by-return said row parts of = record {
+      reads = reads-noted env.serve N noting (back_reading env row parts) ((refl, (refl, tt)), λ n. omega arith);
+      holds = λ w h. (first-turn said _ of (here-turn (serving_settled env.serve w).1 (turns.settled-turn env.serve N noting w h)), left (said ++ []));
+      hands = λ w path choice h is. (first-turn said _ of (handed-turn (returned_row parts row) w path choice h).0, (inl (has-behind (sent_of (offer_kept env.serve.c (returned_row parts row) w.block w.count choice.node)) said _ (inl refl)), tt));
+      waits = λ w path h is. (first-turn said _ of (waiting-deed (returned_row parts row) w path h).0, left (said ++ []));
+    }
+
     -- ---- the head of the line
 
     abbrev Admits : FrontPart × FrontTurn → Type 0
@@ -254,6 +279,8 @@ module _ (env : FrontEnv) (own : env.serve.place ≡ Front) (number : IsConnNumb
         record { notes = (refl, (refl, tt)); segments = tt; gave = tt; messages = acks from epoch; counted = λ n. omega arith },
         drop_all (HeldBy (ack_sent env from epoch) p.kept) kind.Offer 0 p.kept (as-before (ack_sent env from epoch)),
       );
+      gives_again = λ from epoch parts m row found past. said-turn _ (givens from epoch (Some parts));
+      returns = λ from epoch given m row parts at. by-return (given_sent env.serve.c from epoch given) row parts (givens from epoch given);
       admits = λ choice given m row b path at target. handed-turn row (serving b (front_rest p.rest).count []) path choice (fresh b (front_rest p.rest).count);
     }
 

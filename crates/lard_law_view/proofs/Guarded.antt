@@ -27,6 +27,7 @@ module _ (k : Setting) (P Q : Conn → Move → Type 0) where
       taken = λ x env n epoch bytes is spells was. w x _ (R.taken x env n epoch bytes is spells was);
       asked = λ x env n epoch z queue size paths bytes is spells was. w x _ (R.asked x env n epoch z queue size paths bytes is spells was);
       ended = λ x env n epoch reason snd rcv count bytes is spells was. w x _ (R.ended x env n epoch reason snd rcv count bytes is spells was);
+      returned = λ x env n epoch given bytes is spells was. w x _ (R.returned x env n epoch given bytes is spells was);
       admitted = λ x env choice given is e. w x _ (R.admitted x env choice given is e);
     }
 
@@ -73,6 +74,7 @@ module _ (k : Setting) (P Q : Conn → Move → Type 0) where
     taken = λ x env n epoch bytes is spells was. (R.taken x env n epoch bytes is spells was, S.taken x env n epoch bytes is spells was);
     asked = λ x env n epoch z queue size paths bytes is spells was. (R.asked x env n epoch z queue size paths bytes is spells was, S.asked x env n epoch z queue size paths bytes is spells was);
     ended = λ x env n epoch reason snd rcv count bytes is spells was. (R.ended x env n epoch reason snd rcv count bytes is spells was, S.ended x env n epoch reason snd rcv count bytes is spells was);
+    returned = λ x env n epoch given bytes is spells was. (R.returned x env n epoch given bytes is spells was, S.returned x env n epoch given bytes is spells was);
     admitted = λ x env choice given is e. (R.admitted x env choice given is e, S.admitted x env choice given is e);
   }
 

@@ -4,10 +4,11 @@ use Rattle.std.proofs.lemmas.Bool.{cond_both}
 use Rattle.std.specs.FinMap as table
 use Rattle.std.specs.List.{list_any}
 use Rattle.lard_base.specs.declared.event.Event.TheVariants as event
-use Rattle.lard_law_view.specs.Prelude.{Ask, Body, Client, Conn, Event, Final, Front, FrontEnv, FrontPart, IsConnNumber, IsForFront, IsForNode, IsForOtherNode, IsFrontEnv, IsNodeEnv, IsUnheard, IsViewed, Kind, Machine, Message, Move, MsgFault, Node, NodeDeed, NodeEnv, NodePart, NodeState, NodeTurn, Out, Packet, Place, Rules, Seen, ToCluster, Was, aside, ask_of, conn, conn_of, content_sent, decoded, decoded_message, fetched, fetched_file, file_at, front_asked, front_ended, front_env, front_gave, front_part, front_setting, front_taken, front_told, has_path, is_for, kind_of, leaves_at, message_comes, node_acknowledged, node_at, node_content, node_deed, node_does, node_env, node_forwarded, node_gave, node_gets, node_hears, node_offered, node_part, node_saying, node_setting, node_tagged, nothing_done, packet_at, packet_seen, part_of, sent_of, setting_of}
+use Rattle.lard_law_view.specs.Prelude.{Ask, Body, Client, Conn, EndpointParts, Event, Final, Front, FrontEnv, FrontPart, IsConnNumber, IsForFront, IsForNode, IsForOtherNode, IsFrontEnv, IsNodeEnv, IsUnheard, IsViewed, Kind, Machine, Message, Move, MsgFault, Node, NodeDeed, NodeEnv, NodePart, NodeState, NodeTurn, Out, Packet, Place, ReturnedBy, Rules, Seen, SpellsMessage, ToCluster, Was, aside, ask_of, back_body, conn, conn_of, content_sent, decoded, decoded_message, fetched, fetched_file, file_at, front_asked, front_ended, front_env, front_gave, front_part, front_returned, front_setting, front_taken, front_told, has_path, is_for, kind_of, leaves_at, message_comes, node_acknowledged, node_at, node_content, node_deed, node_does, node_env, node_forwarded, node_gave, node_gets, node_hears, node_offered, node_part, node_saying, node_setting, node_tagged, nothing_done, packet_at, packet_seen, part_of, sent_of, setting_of}
 use Rattle.lard_law_view.proofs.Ended.{ended-acts, ended-leaves}
 use Rattle.lard_law_view.proofs.FrontActs.{front-acts}
 use Rattle.lard_law_view.proofs.Fronts as fronts
+use Rattle.lard_law_view.proofs.Fronts.{IsFrontDeed}
 use Rattle.lard_law_view.proofs.Heads.{Begins, comes, was}
 use Rattle.lard_law_view.proofs.Naming.{Names, decoded-names}
 use Rattle.lard_law_view.proofs.NodeActs.{aside-acts, deed-acts}
@@ -15,6 +16,8 @@ use Rattle.lard_law_view.proofs.Nodes as nodes
 use Rattle.lard_law_view.proofs.Nodes.{IsNodeDeed}
 use Rattle.lard_law_view.proofs.Nothing.{node-nothing, told-nothing}
 use Rattle.lard_law_view.proofs.Parts.{node-kept}
+use Rattle.lard_law_view.proofs.Returning.{returned-acts}
+use Rattle.lard_rules.specs.FrontPlace.{comes_back}
 use Rattle.lard_law_view.proofs.Saying.{AreMessages}
 use Rattle.lard_law_view.proofs.Shapes.{IsUnheardAt, Shapes}
 use Rattle.lard_law_view.proofs.Turned.{sent-messages, spelled}
@@ -87,6 +90,18 @@ module _ (m : Machine) (view : IsViewed m) (P : Conn → Move → Type 0) (R : R
     unfolding conn part_of
     kept = sent-messages (conn m c) Front p.kept (view.sound c).between (view.sound c).front
 
+    -- it comes back
+    module _ (given : Option EndpointParts) (spells : SpellsMessage c epoch (back_body given) l.bytes) where
+      good : (its : FrontEnv) → IsFrontEnv (setting_of m) c its → IsFrontDeed c p (front_returned its p from epoch given)
+      good its is = subst (λ (n : ℕ). IsFrontDeed n p (front_returned its p from epoch given)) is.number
+          (fronts.rule-deed its is.place (subst IsConnNumber (sym is.number) number) p (subst (λ (n : ℕ). AreMessages n Front (map sent_of p.kept)) (sym is.number) kept) (ReturnedBy from epoch given) tt)
+
+      returns-acts : Q e (front_gave m e (rec.Got k ∷ []) (comes_back (front_setting m) m.front from c epoch given))
+      unfolding conn part_of
+      returns-acts = returned-acts m view P R Q shapes e c heads number begins refl from epoch given
+          (record { epoch = epoch; given = given; k = k; packet = l; delivers = refl; at = at; sender = is-from; goal = is-to; spells = spells })
+          good (λ its is. R.untouched.front.returned (conn m c) its from epoch given l.bytes is spells sent)
+
     told-acts : (b : Body) → decoded_message l.bytes ≡ Ok (record { c = c; epoch = record { 0 = epoch }; body = b })
         → Q e (front_gave m e (rec.Got k ∷ []) (front_told (front_setting m) m.front from c epoch b))
     unfolding conn part_of
@@ -100,6 +115,8 @@ module _ (m : Machine) (view : IsViewed m) (P : Conn → Move → Type 0) (R : R
         let last : Final = record { reason = reason; snd = record { 0 = snd }; rcv = record { 0 = rcv } } in
         ended-acts m view P R Q shapes e c heads number begins refl (front_ended env p from epoch last) (ended-leaves env p from epoch last) (fronts.ended-deed env refl number p kept from epoch last)
         (R.untouched.front.ended (conn m c) env from epoch reason snd rcv count l.bytes is-env spells sent)
+    told-acts body.Refused spells = returns-acts None spells
+    told-acts (body.Give parts) spells = returns-acts (Some parts) spells
     told-acts _ spells = front-silent is-to (node-unheard from is-from is-to (of-kind IsForFront _ spells (λ for. for)))
 
   -- a message of node from comes to the front end

@@ -76,6 +76,7 @@ pub mod Clients
 pub mod FrontActs
 pub mod Numbers
 pub mod Ended
+pub mod Returning
 pub mod NodeActs
 pub mod Nothing
 pub mod Hearing

@@ -5,7 +5,7 @@ use Rattle.std.specs.List.{fold}
 use Rattle.lard_law_view.specs.Prelude.{Conn, Event, GoesBy, Machine, Move, Out, Packet, Part, Place, Rec, Row, Seen, TurnSaid, conn, letter, letters, machine_told, net_of, net_step, nothing_said, own, packet_seen, packets_of, part_of, passed, seen_on, segments_sent, sent_records, stands, timer_rows, told_rows}
 use Rattle.lard_law_view.specs.View.{sending}
 use Rattle.lard_law_view.proofs.Saying.{gaves-mine, gaves-others, letters-mine, letters-others, messages-between, notes-others, sents-mine, sents-others}
-use Rattle.lard_law_view.proofs.Turned.{IsSaid}
+use Rattle.lard_law_view.proofs.Turned.{IsSaidIn}
 use Rattle.lard_history.proofs.Seeing.{AreOf, letters-append, of-whose, own-append, seen-all, seen-none, seen_on-append}
 use Rattle.lard_journal.specs.declared.rec.Rec.TheVariants as rec
 
@@ -22,7 +22,7 @@ pub record Shows (q : ℕ) (place : Place) (o : Out) (s : TurnSaid) (rows : List
   pub second : letters q (packets_of place o.messages) ≡ map (letter place) s.messages
 
 -- all that is said is of connection c, whose notes are seen so
-module _ (c : ℕ) (place : Place) (o : Out) (said : IsSaid place c o.notes o.segments o.gave o.messages o.answered) (timers : AreOf c o.timers) where
+module _ (c : ℕ) (place : Place) (o : Out) (said : IsSaidIn place c o.notes o.segments o.gave o.messages o.answered) (timers : AreOf c o.timers) where
   pub shows-mine : (ns : List Rec) → ((net : List Packet) → seen_on c net o.notes ≡ map Row ns) → Shows c place o (record { notes = ns; segments = o.segments; gave = o.gave; messages = o.messages }) o.timers
   shows-mine ns notes = record {
     notes = notes;

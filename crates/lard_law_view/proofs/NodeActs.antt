@@ -1,5 +1,5 @@
 -- What a node does by a rule, or for another node, is an act on one connection.
-use Rattle.std.proofs.Common.{◌≡◌, ℕ, ◌-◌, cond, List, [], ◌++◌, map, Some, refl, sym, ap, ◌∙◌, subst, arith}
+use Rattle.std.proofs.Common.{◌≡◌, ℕ, ◌-◌, cond, List, [], ◌++◌, map, Some, refl, sym, ap, ◌∙◌, subst, arith, inr}
 use Rattle.std.specs.Prelude.{slice_set}
 use Rattle.std.proofs.lemmas.List.Sums.{fold-append}
 use Rattle.std.specs.List.{fold}
@@ -8,10 +8,10 @@ use Rattle.lard_law_view.specs.View as view
 use Rattle.lard_law_view.proofs.Heads.{Begins}
 use Rattle.lard_law_view.proofs.Nodes.{IsNodeDeed}
 use Rattle.lard_law_view.proofs.Parts.{length-set, node-as-before, node-elsewhere, node-here, node-kept, node-mine, node-others, node-set}
-use Rattle.lard_law_view.proofs.Saying.{NotedAt, notes-mine, own-first}
+use Rattle.lard_law_view.proofs.Saying.{NotedAt, notes-closing, notes-mine, own-first}
 use Rattle.lard_law_view.proofs.Shapes.{HasJobs, IsPut, Shapes, move_of}
 use Rattle.lard_law_view.proofs.Timers.{timer_rows-same}
-use Rattle.lard_law_view.proofs.Turned.{IsSaid}
+use Rattle.lard_law_view.proofs.Turned.{IsSaid, notes-in, said-in}
 use Rattle.lard_law_view.proofs.Works.{all-append}
 use Rattle.lard_history.proofs.Each.{Each, Each-append}
 use Rattle.lard_history.proofs.Seeing.{by_number, same_number}
@@ -54,9 +54,10 @@ module _ (m : Machine) (P : Conn → Move → Type 0) (Q : Event → Machine →
         put = node-put m n s t at jobs;
         number = number;
         begins = begins;
-        said = of;
-        first = own-first e (Node n) c o.notes tt own of.notes;
-        notes = λ net. notes-mine (Node n) c net o.notes of.notes ∙ ap (map Row) names;
+        said = said-in (Node n) c o.notes o.segments o.gave o.messages o.answered of;
+        first = own-first e (Node n) c o.notes tt own (notes-in (Node n) c o.notes of.notes);
+        closes = inr (notes-closing (Node n) c o.notes of.notes);
+        notes = λ net. notes-mine (Node n) c net o.notes (notes-in (Node n) c o.notes of.notes) ∙ ap (map Row) names;
         timers = none ∙ sym (timer_rows-same (Node n) c (part_of m c));
         mine = node-as-before m n s t at c (same c);
         others = λ q other. node-as-before m n s t at q (same q);
@@ -74,9 +75,10 @@ module _ (m : Machine) (P : Conn → Move → Type 0) (Q : Event → Machine →
         put = node-put m n s t at jobs;
         number = number;
         begins = begins;
-        said = of;
-        first = own-first e (Node n) c o.notes tt own of.notes;
-        notes = λ net. notes-mine (Node n) c net o.notes of.notes ∙ ap (map Row) names;
+        said = said-in (Node n) c o.notes o.segments o.gave o.messages o.answered of;
+        first = own-first e (Node n) c o.notes tt own (notes-in (Node n) c o.notes of.notes);
+        closes = inr (notes-closing (Node n) c o.notes of.notes);
+        notes = λ net. notes-mine (Node n) c net o.notes (notes-in (Node n) c o.notes of.notes) ∙ ap (map Row) names;
         timers = timers ∙ (λ i. node_timers n c (sym (node-kept m n s c at) i) (sym here i));
         mine = node-mine m n s t at c p (same c ∙ node-here s c p);
         others = λ q other. node-as-before m n s t at q (same q ∙ node-elsewhere s c q p other);

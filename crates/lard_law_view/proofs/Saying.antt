@@ -9,7 +9,7 @@ use Rattle.lard_history.proofs.Seeing.{AreOf, letters-all, letters-none, of-whos
 use Rattle.lard_journal.specs.declared.rec.Rec.TheVariants as rec
 use Rattle.lard_law_view.proofs.Firsts.{AreOthers, HasOwn}
 use Rattle.lard_law_view.proofs.RecordKinds.{IsByMachine, IsNote, IsOfPlace, any-kind, kind_of, machine-kind}
-use Rattle.lard_law_view.proofs.OwnRecords.{behind}
+use Rattle.lard_law_view.proofs.OwnRecords.{IsNoClosing, behind}
 
 -- ---- notes
 
@@ -36,6 +36,16 @@ NotedAt (Node n) c (rec.Read k o d r path) = (k ≡ n) × (d ≡ c)
 NotedAt (Node n) c (rec.Hit k path) = k ≡ n
 NotedAt _ _ _ = ⊥
 
+-- what a place may note that names no connection
+abbrev pub NamesNobody : Place → Rec → Type 0
+NamesNobody Front (rec.Closed n) = Unit {0}
+NamesNobody (Node n) (rec.Hit k path) = k ≡ n
+NamesNobody _ _ = ⊥
+
+-- of the connection, or of none
+abbrev pub NotedIn : Place → ℕ → Rec → Type 0
+NotedIn place c r = NotedAt place c r ⊎ NamesNobody place r
+
 -- of what kind it is
 pub note-kind : (place : Place) (c : ℕ) (r : Rec) → NotedAt place c r → IsOfPlace place (kind_of r)
 note-kind (Client e) c (rec.Wrote d bytes) h = tt
@@ -58,6 +68,15 @@ note-kind (Node n) c (rec.Queued k o d r path) h = tt
 note-kind (Node n) c (rec.Read k o d r path) h = tt
 note-kind (Node n) c (rec.Hit k path) h = tt
 note-kind _ c _ h = absurd h
+
+pub nobody-kind : (place : Place) (r : Rec) → NamesNobody place r → IsOfPlace place (kind_of r)
+nobody-kind Front (rec.Closed n) h = tt
+nobody-kind (Node n) (rec.Hit k path) h = tt
+nobody-kind _ _ h = absurd h
+
+pub in-kind : (place : Place) (c : ℕ) (r : Rec) → NotedIn place c r → IsOfPlace place (kind_of r)
+in-kind place c r (inl h) = note-kind place c r h
+in-kind place c r (inr h) = nobody-kind place r h
 
 -- what it may give up
 abbrev pub GaveAt : Place → ℕ → Rec → Type 0
@@ -90,6 +109,30 @@ note-of (Node n) c (rec.Queued k o d r path) h = inl (ap Some h.1, refl)
 note-of (Node n) c (rec.Read k o d r path) h = inl (ap Some h.1, refl)
 note-of (Node n) c (rec.Hit k path) h = inr (refl, λ q net. refl)
 note-of _ c _ h = absurd h
+
+pub nobody-seen : (place : Place) (q : ℕ) (net : List Packet) (r : Rec) → NamesNobody place r → seen_of q net r ≡ []
+nobody-seen Front q net (rec.Closed n) h = refl
+nobody-seen (Node n) q net (rec.Hit k path) h = refl
+nobody-seen _ q net _ h = absurd h
+
+nobody-of : (place : Place) (c : ℕ) (r : Rec) → NamesNobody place r → IsOf c r
+nobody-of Front c (rec.Closed n) h = inr (refl, λ q net. refl)
+nobody-of (Node n) c (rec.Hit k path) h = inr (refl, λ q net. refl)
+nobody-of _ c _ h = absurd h
+
+pub in-of : (place : Place) (c : ℕ) (r : Rec) → NotedIn place c r → IsOf c r
+in-of place c r (inl h) = note-of place c r h
+in-of place c r (inr h) = nobody-of place c r h
+
+-- what is noted of a connection closes no node
+note-closing : (place : Place) (c : ℕ) (r : Rec) → NotedAt place c r → IsNoClosing r
+note-closing Front c (rec.Closed n) h = absurd h
+note-closing (Node k) c (rec.Closed n) h = absurd h
+note-closing (Client d) c (rec.Closed n) h = absurd h
+note-closing _ c _ h = tt
+
+pub notes-closing : (place : Place) (c : ℕ) (rs : List Rec) → Each (NotedAt place c) rs → Each IsNoClosing rs
+notes-closing place c rs h = Each-weaker (NotedAt place c) IsNoClosing (note-closing place c) rs h
 
 -- all that another place than a node notes is of the connection
 abbrev pub NamesAll : Place → Type 0
@@ -135,15 +178,15 @@ machine-other (rec.Queued n m c r path) h = refl
 machine-other (rec.Read n m c r path) h = refl
 machine-other _ h = absurd h
 
-note-other : (place : Place) (c : ℕ) (r : Rec) → IsMachine place → NotedAt place c r → not (is_own r) ≡ true
-note-other place c r m h = machine-other r (machine-kind place (kind_of r) m (note-kind place c r h))
+note-other : (place : Place) (c : ℕ) (r : Rec) → IsMachine place → NotedIn place c r → not (is_own r) ≡ true
+note-other place c r m h = machine-other r (machine-kind place (kind_of r) m (in-kind place c r h))
 
-pub notes-other : (place : Place) (c : ℕ) (rs : List Rec) → IsMachine place → Each (NotedAt place c) rs → AreOthers rs
+pub notes-other : (place : Place) (c : ℕ) (rs : List Rec) → IsMachine place → Each (NotedIn place c) rs → AreOthers rs
 notes-other place c [] m e = refl
 notes-other place c (r ∷ rs) m e = ap (λ b. b && list_all (λ q. not (is_own q)) rs) (note-other place c r m e.0) ∙ notes-other place c rs m e.1
 
 -- the event's own records stand first
-pub own-first : (e : Event) (place : Place) (c : ℕ) (rs : List Rec) → IsMachine place → AreOwn e (behind e) → Each (NotedAt place c) rs → HasOwn e (behind e ++ rs)
+pub own-first : (e : Event) (place : Place) (c : ℕ) (rs : List Rec) → IsMachine place → AreOwn e (behind e) → Each (NotedIn place c) rs → HasOwn e (behind e ++ rs)
 own-first e place c rs m own noted = (behind e, rs, refl, own, notes-other place c rs m noted)
 
 -- ---- who sees notes
@@ -155,7 +198,7 @@ named-none : (r : Rec) (rs : List Rec) → whose r ≡ None → named_records (r
 named-none r rs e = ap (λ (o : Option ℕ). cond (is_some o) (r ∷ named_records rs) (named_records rs)) e
 
 -- the connection sees those that name it
-pub notes-mine : (place : Place) (c : ℕ) (net : List Packet) (rs : List Rec) → Each (NotedAt place c) rs → seen_on c net rs ≡ map Row (named_records rs)
+pub notes-mine : (place : Place) (c : ℕ) (net : List Packet) (rs : List Rec) → Each (NotedIn place c) rs → seen_on c net rs ≡ map Row (named_records rs)
 notes-mine place c net [] e = refl
 notes-mine place c net (r ∷ rs) e =
     let later : seen_on c (net_step net r) rs ≡ map Row (named_records rs) = notes-mine place c (net_step net r) rs e.1 in
@@ -164,21 +207,21 @@ notes-mine place c net (r ∷ rs) e =
     (λ i. seen-mine c net r h.0 i ++ later i) ∙ ap (λ (k : Rec). Row k ∷ map Row (named_records rs)) h.1 ∙ ap (map Row) (sym (named-of c r rs h.0)))
     (λ (h : (whose r ≡ None) × ((q : ℕ) (net : List Packet) → seen_of q net r ≡ [])).
     (λ i. h.1 c net i ++ later i) ∙ ap (map Row) (sym (named-none r rs h.0)))
-    (note-of place c r e.0)
+    (in-of place c r e.0)
 
 -- of a place that notes nothing else, all
 pub notes-all : (place : Place) (c : ℕ) (net : List Packet) (rs : List Rec) → NamesAll place → Each (NotedAt place c) rs → seen_on c net rs ≡ map Row rs
 notes-all place c net rs k e = seen-all c net rs (Each-weaker (NotedAt place c) (λ r. (whose r ≡ Some c) × (plain r ≡ r)) (λ r. note-names place c r k) rs e)
 
 -- no other sees one
-pub notes-others : (place : Place) (c q : ℕ) (net : List Packet) (rs : List Rec) → q ≢ c → Each (NotedAt place c) rs → seen_on q net rs ≡ []
+pub notes-others : (place : Place) (c q : ℕ) (net : List Packet) (rs : List Rec) → q ≢ c → Each (NotedIn place c) rs → seen_on q net rs ≡ []
 notes-others place c q net [] n e = refl
 notes-others place c q net (r ∷ rs) n e =
     let later : seen_on q (net_step net r) rs ≡ [] = notes-others place c q (net_step net r) rs n e.1 in
     ⊎_elim
     (λ (h : (whose r ≡ Some c) × (plain r ≡ r)). λ i. seen-other c q net r n h.0 i ++ later i)
     (λ (h : (whose r ≡ None) × ((q : ℕ) (net : List Packet) → seen_of q net r ≡ [])). λ i. h.1 q net i ++ later i)
-    (note-of place c r e.0)
+    (in-of place c r e.0)
 
 gaves-of : (place : Place) (c : ℕ) (rs : List Rec) → Each (GaveAt place c) rs → AreOf c rs
 gaves-of place c rs e = Each-weaker (GaveAt place c) (λ r. (whose r ≡ Some c) × (plain r ≡ r)) (gave-of place c) rs e
@@ -201,8 +244,8 @@ note-passes (rec.Sent k from to bytes) h = absurd h
 note-passes (rec.Lost k) h = absurd h
 note-passes _ h = (refl, λ net. refl)
 
-pub note-still : (place : Place) (c : ℕ) (r : Rec) → NotedAt place c r → IsStill r
-note-still place c r h = note-passes r (any-kind place (kind_of r) (note-kind place c r h))
+pub note-still : (place : Place) (c : ℕ) (r : Rec) → NotedIn place c r → IsStill r
+note-still place c r h = note-passes r (any-kind place (kind_of r) (in-kind place c r h))
 
 pub gave-still : (place : Place) (c : ℕ) (r : Rec) → GaveAt place c r → IsStill r
 gave-still Front c (rec.Gave Front d epoch) h = (refl, λ net. refl)

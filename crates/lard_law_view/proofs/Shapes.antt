@@ -1,14 +1,14 @@
 -- The shapes of a step: a place acts on one connection, the front end acts on two, a place acts on many or on none, a packet comes
 -- and nothing is done, a packet is lost, or the time moves on.
-use Rattle.std.proofs.Common.{◌≡◌, ◌≢◌, ℕ, ◌+◌, ◌-◌, ◌<◌, List, [], ◌∷◌, ◌++◌, map, length, false, Some, None}
+use Rattle.std.proofs.Common.{◌≡◌, ◌≢◌, ℕ, ◌+◌, ◌-◌, ◌<◌, List, [], ◌∷◌, ◌++◌, map, length, Bool, false, cond, Option, Some, None}
 use Rattle.std.specs.Prelude.{◌⊎◌}
 use Rattle.std.specs.FinMap as table
 use Rattle.std.specs.List.{flat_map}
-use Rattle.lard_law_view.specs.Prelude.{AreNumbered, Client, Conn, Event, Front, IsConnNumber, IsMachine, IsUnheard, Machine, Move, Node, NodeState, Out, Packet, Part, Place, Rec, Row, Seen, clocked, conn, conn_of, lose_at, machine_told, node_at, packet_at, part_of, passed, seen_on, timer_rows}
+use Rattle.lard_law_view.specs.Prelude.{AreNumbered, Client, Conn, EndpointParts, Epoch, Event, Front, IsConnNumber, IsMachine, IsUnheard, Machine, Move, Node, NodeState, Out, Packet, Part, Place, Rec, Row, Seen, SpellsMessage, back_body, clocked, conn, conn_of, lose_at, machine_told, node_at, packet_at, part_of, passed, seen_on, timer_rows}
 use Rattle.lard_base.specs.declared.event.Event.TheVariants as event
 use Rattle.lard_law_view.proofs.Heads.{Begins}
-use Rattle.lard_law_view.proofs.Saying.{AreMessages, GaveAt}
-use Rattle.lard_law_view.proofs.Turned.{IsSaid}
+use Rattle.lard_law_view.proofs.Saying.{AreMessages, GaveAt, NamesNobody}
+use Rattle.lard_law_view.proofs.Turned.{IsSaidIn}
 use Rattle.lard_history.proofs.Each.{Each}
 use Rattle.lard_journal.specs.declared.rec.Rec.TheVariants as rec
 use Rattle.lard_law_view.proofs.Firsts.{HasOwn}
@@ -34,13 +34,36 @@ pub record IsPut (m w : Machine) : Type 0 where
 abbrev pub move_of : Place → List Seen → List Rec → Out → Part → Move
 move_of place heads ns o p = record { place = place; heads = heads; said = record { notes = ns; segments = o.segments; gave = o.gave; messages = o.messages }; part = p }
 
+-- The front end hears that connection c comes back: a Refused or a Give of this node. In the step of that alone, and of a drain, a node is closed.
+pub record HearsReturn (m : Machine) (e : Event) (c from : ℕ) : Type 0 where
+  pub k : ℕ
+  pub packet : Packet
+  pub epoch : ℕ
+  pub given : Option EndpointParts
+  pub delivers : e ≡ event.Deliver k
+  pub at : packet_at m.net k ≡ Some packet
+  pub sender : packet.from ≡ Node from
+  pub goal : packet.to ≡ Front
+  pub spells : SpellsMessage c epoch (back_body given) packet.bytes
+
+-- Where it does, the node is closed behind the record that the front end took the connection, if it was open, and nowhere else.
+pub record ClosesBehind (m : Machine) (e : Event) (c : ℕ) (notes : List Rec) : Type 0 where
+  pub from : ℕ
+  pub hears : HearsReturn m e c from
+  pub taken : Epoch
+  pub open_ : Bool
+  pub rest : List Rec
+  pub are : notes ≡ rec.Took Front c taken ∷ cond open_ (rec.Closed from ∷ []) [] ++ rec.Released c ∷ [] ++ rest
+  pub none : Each IsNoClosing rest
+
 -- A place acts on connection c, which is left so.
 pub record ActsOn (m w : Machine) (e : Event) (place : Place) (o : Out) (c : ℕ) (heads : List Seen) (ns : List Rec) (p : Part) : Type 0 where
   pub put : IsPut m w
   pub number : IsConnNumber c
   pub begins : Begins m e place c heads
-  pub said : IsSaid place c o.notes o.segments o.gave o.messages o.answered
+  pub said : IsSaidIn place c o.notes o.segments o.gave o.messages o.answered
   pub first : HasOwn e (behind e ++ o.notes)
+  pub closes : ClosesBehind m e c o.notes ⊎ Each IsNoClosing o.notes
   pub notes : (net : List Packet) → seen_on c net o.notes ≡ map Row ns
   pub timers : o.timers ≡ timer_rows place c (part_of m c) p
   pub mine : part_of w c ≡ p
@@ -75,7 +98,7 @@ ReadsOn (rec.Reset place c total) = Unit {0}
 ReadsOn (rec.Waits c) = Unit {0}
 ReadsOn _ = ⊥
 
--- The front end acts on connection c, and on another one, d, in the same step; behind d stands the rest of c.
+-- The front end acts on connection c, and on another one, d, in the same step; behind d stands the rest of c, with all that c reads on.
 pub record ActsOnTwo (m w : Machine) (e : Event) (a b z : Out) (rows : List Rec) (c d : ℕ) (heads : List Seen) (ns : List Rec) (p r : Part) : Type 0 where
   pub put : IsPut m w
   pub number : IsConnNumber c
@@ -83,9 +106,11 @@ pub record ActsOnTwo (m w : Machine) (e : Event) (a b z : Out) (rows : List Rec)
   pub apart : d ≢ c
   pub begins : Begins m e Front c heads
   pub first : HasOwn e (behind e ++ (a.notes ++ b.notes ++ z.notes))
-  pub said : IsSaid Front c a.notes a.segments a.gave a.messages a.answered
-  pub said_too : IsSaid Front d b.notes b.segments b.gave b.messages 0
-  pub said_rest : IsSaid Front c z.notes z.segments z.gave z.messages z.answered
+  pub closes : ClosesBehind m e c (a.notes ++ b.notes ++ z.notes) ⊎ Each IsNoClosing (a.notes ++ b.notes ++ z.notes)
+  pub said : IsSaidIn Front c a.notes a.segments a.gave a.messages a.answered
+  pub said_too : IsSaidIn Front d b.notes b.segments b.gave b.messages 0
+  pub said_rest : IsSaidIn Front c z.notes z.segments z.gave z.messages z.answered
+  pub before : Each (λ r. ReadsOn r → ⊥) a.notes
   pub reads_on : Each ReadsOn z.notes
   pub notes : (net : List Packet) → seen_on c net (a.notes ++ z.notes) ≡ map Row ns
   pub notes_too : (net : List Packet) → seen_on d net b.notes ≡ map Row b.notes
@@ -109,12 +134,6 @@ pub record Mover : Type 0 where
 -- it sees nothing of the event, and notes nothing
 abbrev pub mover_move : Place → Mover → Move
 mover_move place x = record { place = place; heads = []; said = record { notes = []; segments = []; gave = x.gave; messages = x.messages }; part = x.part }
-
--- what a place may note that names no connection
-abbrev pub NamesNobody : Place → Rec → Type 0
-NamesNobody Front (rec.Closed n) = Unit {0}
-NamesNobody (Node n) (rec.Hit k path) = k ≡ n
-NamesNobody _ _ = ⊥
 
 -- what a place notes of nobody, and what it does on each of these connections, kind by kind
 abbrev pub each_out : List Rec → List Mover → Out

@@ -1,4 +1,5 @@
 -- A step that is done has one of the shapes.
+use Rattle.lard_law_view.proofs.Saying.{NamesNobody}
 use Rattle.std.proofs.Common.{◌≡◌, ℕ, ◌-◌, Bool, true, false, cond, nat_lt, List, [], ◌∷◌, length, Option, Some, None, Result, Ok, Err, refl, sym, ap, ◌∙◌, subst, ◌++◌, inl, inr}
 use Rattle.std.specs.FinMap as table
 use Rattle.std.proofs.lemmas.Bool.{cond_both}
@@ -14,7 +15,7 @@ use Rattle.lard_law_view.proofs.Firing.{disk-completes, front-fires, front-gets,
 use Rattle.lard_law_view.proofs.Hearing.{front-message, node-message}
 use Rattle.lard_law_view.proofs.Nothing.{node-there}
 use Rattle.lard_law_view.proofs.Numbers.{client-number}
-use Rattle.lard_law_view.proofs.Shapes.{ActsOnEach, NamesNobody, Shapes}
+use Rattle.lard_law_view.proofs.Shapes.{ActsOnEach, Shapes}
 use Rattle.lard_law_view.proofs.Turned.{between-has}
 use Rattle.lard_journal.specs.declared.rec.Rec.TheVariants as rec
 use Rattle.lard_rules.specs.declared.fault.What.TheVariants.{Stream}

@@ -17,7 +17,7 @@ use Rattle.lard_law_view.proofs.Saying.{NamesAll, notes-mine}
 use Rattle.lard_law_view.proofs.Shapes.{ActsOn, ActsOnEach, ActsOnTwo, AreRising, IsMover, IsNobodyAt, IsUnheardAt, Mover, Shapes, both_out, each_out, move_of, mover_move, with_rest}
 use Rattle.lard_law_view.proofs.Stepping.{step-has}
 use Rattle.lard_law_view.proofs.Timers.{timer_rows-of, timer_rows-same}
-use Rattle.lard_law_view.proofs.Turned.{IsSaid, between-has}
+use Rattle.lard_law_view.proofs.Turned.{IsSaidIn, between-has}
 use Rattle.lard_history.proofs.Each.{Each, Each-weaker}
 use Rattle.lard_history.proofs.Seeing.{AreOf, by_number, letters-append, letters-lost, seen_on-append}
 use Rattle.lard_journal.specs.declared.rec.Rec.TheVariants as rec
@@ -115,7 +115,7 @@ abbrev mover_said : Mover → TurnSaid
 mover_said x = record { notes = []; segments = []; gave = x.gave; messages = x.messages }
 
 module _ (m w : Machine) (place : Place) (q : ℕ) where
-  piece-said : (x : Mover) → IsMover m w place x → IsSaid place x.c [] [] x.gave x.messages 0
+  piece-said : (x : Mover) → IsMover m w place x → IsSaidIn place x.c [] [] x.gave x.messages 0
   piece-said x h = record { notes = tt; segments = tt; gave = h.gave; messages = h.messages; counted = λ n. omega arith }
 
   piece-timers : (x : Mover) → IsMover m w place x → AreOf x.c x.timers

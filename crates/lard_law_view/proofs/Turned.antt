@@ -4,7 +4,7 @@ use Rattle.std.specs.Prelude.{◌⊎◌}
 use Rattle.std.specs.List.{AllByRecursion, fold}
 use Rattle.lard_law_view.specs.Prelude.{AreBetween, AreSent, Body, Client, Conn, Front, GoesBetween, Has, IsConnNumber, IsMachine, Kept, Letter, Node, Place, Rec, Was, answered_step, letter, named_in, sent_of, spelled_message}
 use Rattle.lard_law_view.proofs.Naming.{spelled-named}
-use Rattle.lard_law_view.proofs.Saying.{AllBetween, AreMessages, GaveAt, NotedAt}
+use Rattle.lard_law_view.proofs.Saying.{AllBetween, AreMessages, GaveAt, NotedAt, NotedIn}
 use Rattle.lard_history.proofs.Each.{Each, Each-weaker}
 use Rattle.lard_history.proofs.Seeing.{has-before, has-behind, has-each}
 use Rattle.lard_law_view.proofs.EndpointSends.{AllTo}
@@ -18,6 +18,21 @@ pub record IsSaid (place : Place) (c : ℕ) (ns : List Rec) (ss : List (Place ×
   pub gave : Each (GaveAt place c) gs
   pub messages : AreMessages c place ms
   pub counted : (n : ℕ) → fold answered_step n ns ≡ n + answered
+
+-- so in a step, in which what names nobody may stand among the notes
+pub record IsSaidIn (place : Place) (c : ℕ) (ns : List Rec) (ss : List (Place × List ℕ)) (gs : List Rec) (ms : List (Place × List ℕ)) (answered : ℕ) : Type 0 where
+  pub notes : Each (NotedIn place c) ns
+  pub segments : AllBetween c place ss
+  pub gave : Each (GaveAt place c) gs
+  pub messages : AreMessages c place ms
+  pub counted : (n : ℕ) → fold answered_step n ns ≡ n + answered
+
+pub notes-in : (place : Place) (c : ℕ) (ns : List Rec) → Each (NotedAt place c) ns → Each (NotedIn place c) ns
+notes-in place c ns h = Each-weaker (NotedAt place c) (NotedIn place c) (λ r k. inl k) ns h
+
+pub said-in : (place : Place) (c : ℕ) (ns : List Rec) (ss : List (Place × List ℕ)) (gs : List Rec) (ms : List (Place × List ℕ)) (answered : ℕ)
+    → IsSaid place c ns ss gs ms answered → IsSaidIn place c ns ss gs ms answered
+said-in place c ns ss gs ms answered h = record { notes = notes-in place c ns h.notes; segments = h.segments; gave = h.gave; messages = h.messages; counted = h.counted }
 
 -- what an endpoint sends to its client
 pub front-segments : (c : ℕ) (ss : List (Place × List ℕ)) → AllTo (Client c) ss → AllBetween c Front ss

@@ -3,6 +3,7 @@ pub mod Truth
 pub mod WhileUntouched
 pub mod Sending
 pub mod ClientTale
+pub mod Epochs
 pub mod Agreement
 pub mod Keeping
 pub mod Truthful

@@ -90,6 +90,7 @@ pub use Rattle.lard_resend.specs.Pending.{list_of, sent_of}
 pub use Rattle.lard_resend.specs.declared.kept.Kept.{Kept}
 pub use Rattle.lard_lateral.specs.Lateral.{fetch_kept, fetching, is_from, is_node, names_epoch}
 pub use Rattle.lard_handoff_front.specs.Front.{asked_node, end_answer, ended_row, ended_with, next_epoch}
+pub use Rattle.lard_handoff_front.specs.Returns.{give_answer, refused_answer, returned_row}
 pub use Rattle.lard_handoff_front.specs.Row.{is_away, is_waiting, offered_to}
 pub use Rattle.lard_handoff_front.specs.declared.row.FrontConn.{FrontConn}
 pub use Rattle.lard_handoff_front.specs.declared.row.FrontRow.{FrontRow}
@@ -136,10 +137,10 @@ unfoldable pub use Rattle.lard_history.specs.Own.{letters, own}
 pub use Rattle.lard_history.specs.Steps.{AtEachEnd, EachStep, HoldsBefore, is_opening, split, steps}
 pub use Rattle.lard_rules.specs.Bounds.{HasRule, HasTimer, IsConnNumber}
 pub use Rattle.lard_rules.specs.Client.{ClientFires, ClientGets, ClientReceives, ToAbort, ToGet, ToHold, ToShut, ToTake, ToWrite, accepted_note, client_aborts, client_gets, client_holds, client_injects, client_opens, client_rule, client_shuts, client_takes, client_timer, client_writes, eof_note, silent, speaking, station_ready_of}
-pub use Rattle.lard_rules.specs.Front.{AskedBy, Did, EndedBy, FrontAdmits, FrontDeed, FrontEnv, FrontFires, FrontGets, FrontHears, FrontPart, TakenBy, ack_sent, admitted_by, ask_of, asked_by, assigned_notes, assigns, fires_at, forwarded, front_admitted, front_armed, front_asked, front_begun, front_ended, front_ended_by, front_ends, front_fired, front_fired_by, front_gets, front_hears, front_rest, front_rests, front_rule, front_saying, front_taken, front_timer, handed_off, heard, hears_at, holds, is_row_at, is_with, leaves_by, met, offer_kept, offering, over_note, placed, rest_after, row_armed, settled_by, stage_after, stage_armed, tag_sent, taken_by, turn_here, waits_on}
+pub use Rattle.lard_rules.specs.Front.{AskedBy, Did, EndedBy, FrontAdmits, FrontDeed, FrontEnv, FrontFires, FrontGets, FrontHears, FrontPart, ReturnedBy, TakenBy, ack_sent, admitted_by, ask_of, asked_by, assigned_notes, back_answer, back_notes, back_part, back_rest, assigns, does_first, fires_at, forwarded, front_admitted, front_armed, front_asked, front_begun, front_ended, front_ended_by, front_ends, front_fired, front_fired_by, front_gets, front_hears, front_rest, front_rests, front_returned, front_rule, front_saying, front_taken, front_timer, given_sent, handed_off, heard, hears_at, holds, is_row_at, is_with, leaves_by, met, offer_kept, offering, over_note, parts_back, parts_in, parts_kept, parts_read, placed, reads_on, rest_after, returned_by, row_armed, settled_by, stage_after, stage_armed, stands_first, tag_sent, taken_by, turn_here, waits_on}
 pub use Rattle.lard_rules.specs.FrontPlace.{FrontSetting, admits, admits_too, closed_note, ended_deed, front_deed, front_did, front_drains, front_env, front_joined, front_out_of, front_part, front_put, front_step, front_timers, front_told, in_order, message_comes, put_back}
 pub use Rattle.lard_rules.specs.FrontReading.{MayMove, Reading, block_at, front_reads, reading_left, reading_turn, reads_block, reads_found, targeted, with_service}
-pub use Rattle.lard_rules.specs.FrontSound.{DispatchStanding, HasTarget, IsEarlyAway, IsEarlyHere, IsEarlyOver, IsFrontSound, IsPartSound, IsRowSound, IsStageSound, MayDrain, Serves, Waits, dispatch_standing, nowhere}
+pub use Rattle.lard_rules.specs.FrontSound.{DispatchStanding, HasTarget, IsFrontSound, IsPartSound, IsRowSound, IsStageSound, MayClose, MayCloseBy, MayCloseOn, Serves, Waits, dispatch_standing, nowhere}
 pub use Rattle.lard_rules.specs.Limits.{limit_of}
 pub use Rattle.lard_rules.specs.Loop.{Done, More, Step, state_of}
 unfoldable pub use Rattle.lard_rules.specs.Loop.{runs_on}
@@ -188,5 +189,6 @@ pub use Rattle.lard_law_view.specs.Taking.{Gets, MayTake, TakesInOrder, got_step
 pub use Rattle.lard_law_view.specs.Timers.{ChangesInSteps, ChangesTimers, change_of, is_change, is_change_of}
 pub use Rattle.lard_law_view.specs.Truth.{Accepts, GoesOn, Hears, IsBare, IsStream, IsTrueOf, Speaks, Stands, Stream, stream_of}
 pub use Rattle.lard_law_view.specs.Truthful.{IsTrueAfter, MayAccept, Talk}
-pub use Rattle.lard_law_view.specs.View.{AreBetween, AreNumbered, AreSent, ClientRules, Conn, FrontRules, GoesBetween, GoesBy, IsConnSound, IsForFront, IsForNode, IsForOtherNode, IsFrontEnv, IsMachine, IsNobody, IsNodeEnv, IsUnheard, IsViewed, Move, NodeRules, Part, Rules, Setting, SpellsMessage, TurnSaid, UntouchedRules, Was, blank_conn, brought_said, by_client, by_front, by_node, client_begins, client_does, content_said, epoch_in, event_seen, front_admits, front_does, grown, inject_seen, kept_at, which_leave, letter, letters_of, named_records, node_does, node_put_back, nothing_kept, nothing_said, packet_seen, reads_first, rows_of, seen_in, setting_of, stands, station_armed, with_front, with_leaving, with_node, with_station}
+pub use Rattle.lard_law_view.specs.Epochs.{IsOnceAway, IsOnceHere, IsOnceOver}
+pub use Rattle.lard_law_view.specs.View.{AreBetween, AreNumbered, AreSent, ClientRules, Conn, FrontRules, GoesBetween, GoesBy, IsConnSound, IsForFront, IsForNode, IsForOtherNode, IsFrontEnv, IsMachine, IsNobody, IsNodeEnv, IsUnheard, IsViewed, Move, NodeRules, Part, Rules, Setting, SpellsMessage, TurnSaid, UntouchedRules, Was, back_body, blank_conn, brought_said, by_client, by_front, by_node, client_begins, client_does, content_said, epoch_in, event_seen, front_admits, front_does, grown, inject_seen, kept_at, which_leave, letter, letters_of, named_records, node_does, node_put_back, nothing_kept, nothing_said, packet_seen, reads_first, rows_of, seen_in, setting_of, stands, station_armed, with_front, with_leaving, with_node, with_station}
 unfoldable pub use Rattle.lard_law_view.specs.View.{conn, part_of, timer_rows}

@@ -18,7 +18,7 @@ use Rattle.lard_disk.specs.declared.disk.Job.{Job}
 use Rattle.lard_files.specs.Files.{file_at}
 use Rattle.lard_rules.specs.declared.front.FrontTurn.{FrontTurn}
 use Rattle.lard_rules.specs.Front as front
-use Rattle.lard_rules.specs.Front.{FrontEnv, FrontPart, ask_of, front_admitted, front_asked, front_ended, front_gets, front_taken, front_timer}
+use Rattle.lard_rules.specs.Front.{FrontEnv, FrontPart, ask_of, front_admitted, front_asked, front_ended, front_gets, front_returned, front_taken, front_timer}
 use Rattle.lard_rules.specs.FrontPlace as front_place
 use Rattle.lard_rules.specs.FrontPlace.{front_part}
 use Rattle.lard_handoff_back.specs.Table.{nothing_beside}
@@ -188,6 +188,8 @@ abbrev pub IsForFront : Kind → Type 0
 IsForFront kind.Taken = Unit {0}
 IsForFront kind.Ask = Unit {0}
 IsForFront kind.Ended = Unit {0}
+IsForFront kind.Refused = Unit {0}
+IsForFront kind.Give = Unit {0}
 IsForFront _ = ⊥
 
 -- and a node of another one, each time: a Fetch it may pass over
@@ -297,6 +299,11 @@ epoch_in p = elim p.row [ None ↦ 0 | Some row ↦ row.epoch.0 ]
 abbrev pub SpellsMessage : ℕ → ℕ → Body → List ℕ → Type 0
 SpellsMessage c epoch b bytes = decoded_message bytes ≡ Ok (record { c = c; epoch = record { 0 = epoch }; body = b })
 
+-- how a node says that a connection comes back: it refuses it, or gives it back with these parts
+abbrev pub back_body : Option EndpointParts → Body
+back_body None = body.Refused
+back_body (Some parts) = body.Give parts
+
 -- P is so of each move of a client's rule
 pub record ClientRules (k : Setting) (P : Conn → Move → Type 0) : Type 0 where
   pub opens : (x : Conn) (isn iss wnd mss : ℕ) → HasRule (event.Open x.c isn iss wnd mss) → x.part.station ≡ None → P x (client_begins x isn iss wnd mss)
@@ -326,6 +333,9 @@ pub record FrontRules (k : Setting) (P : Conn → Move → Type 0) : Type 0 wher
   pub ended : (x : Conn) (env : FrontEnv) (n epoch : ℕ) (reason : Reason) (snd rcv count : ℕ) (bytes : List ℕ) → IsFrontEnv k x.c env
       → SpellsMessage x.c epoch (body.Ended reason snd rcv count) bytes → Was x (Node n) Front bytes
       → P x (front_does x (packet_seen (Node n) Front bytes) (front_ended env x.part.front n epoch (record { reason = reason; snd = record { 0 = snd }; rcv = record { 0 = rcv } })))
+  pub returned : (x : Conn) (env : FrontEnv) (n epoch : ℕ) (given : Option EndpointParts) (bytes : List ℕ) → IsFrontEnv k x.c env
+      → SpellsMessage x.c epoch (back_body given) bytes → Was x (Node n) Front bytes
+      → P x (front_does x (packet_seen (Node n) Front bytes) (front_returned env x.part.front n epoch given))
   pub admitted : (x : Conn) (env : FrontEnv) (choice : FirstChoice) (given : FrontPart × FrontTurn) → IsFrontEnv k x.c env → front_admitted env x.part.front choice ≡ Some given
       → P x (front_admits x given)
 

@@ -2,7 +2,7 @@
 use Rattle.std.proofs.Common.{◌≡◌, ◌⊎◌, ℕ, ◌≤◌, true, List, [], ◌∷◌, map, Option, Some, None, Result, Ok, inl, inr, ⊎_elim, sym, ap, ◌∙◌, subst, arith}
 use Rattle.lard_law_view.specs.Prelude.{BackConn, BackRow, Body, Client, Ending, EndpointParts, Final, Front, FrontConn, FrontRow, Letter, Node, Part, Place, Said, SegFault, ToClient, ToCluster, decoded, kind_of, letter}
 use Rattle.lard_laws.specs.Acks.{BackActs, Bounds, EndActs, FrontActs, FrontBodyActs, LetterActs, LetterActsOn, NodeBodyActs, PartsAct, ReplyActs, WordActs}
-use Rattle.lard_law_connections.specs.Places.{FrontSaid, HasEnded, IsDecided, IsOffered, IsOver, LetterMay, MaySay, NodeSaid, message_head}
+use Rattle.lard_law_connections.specs.Places.{FrontSaid, HasEnded, IsDecided, IsOffered, IsOver, IsRefusalKnown, LetterMay, MaySay, NodeSaid, message_head}
 use Rattle.lard_law_connections.proofs.PlacesGrowing.{Grows, decided-grows, ended-grows}
 use Rattle.lard_law_connections.proofs.PlacesHeads.{decoded-head}
 use Rattle.lard_handoff_back.specs.declared.row.BackConn.TheVariants as back
@@ -10,6 +10,7 @@ use Rattle.lard_handoff_front.specs.declared.row.FrontConn.TheVariants as stage
 use Rattle.lard_history.proofs.Each.{Each}
 use Rattle.lard_law_view.proofs.Acked.{heard_at, RepliesMay, ReplyMay, WordMay, WordsMay}
 use Rattle.lard_law_view.proofs.Holding.{acks-more}
+use Rattle.lard_message.specs.declared.kind.Kind.TheVariants as kind
 use Rattle.lard_message.specs.declared.message.Body.TheVariants as body
 use Rattle.lard_rules.specs.declared.places.Ending.TheVariants as ending
 use Rattle.lard_segment.proofs.Again.{again}
@@ -88,15 +89,22 @@ module _ (c : ℕ) (b d : Bounds) (p q : Part) (on : GoesOn b d p q) where
   ended-on : (e : ℕ) → HasEnded e p.front.row → HasEnded e q.front.row
   ended-on e h = ended-grows q.nodes e p.front.row q.front.row on.grows.front h
 
-  offer-on : (n e : ℕ) (parts : EndpointParts) → IsDecided e (p.nodes n).row ⊎ IsOffered n e p.front.row → IsDecided e (p.nodes n).row ⊎ PartsAct b parts → IsDecided e (q.nodes n).row ⊎ PartsAct d parts
-  offer-on n e parts said h = ⊎_elim
-      (λ (decided : IsDecided e (p.nodes n).row). inl (decided-on n e decided))
-      (λ (act : PartsAct b parts). ⊎_elim
-      (λ (same : d.heard ≡ b.heard). inr (parts-more b d on.widens same parts act))
-      (λ (all : (n e : ℕ) → IsOffered n e p.front.row → IsDecided e (q.nodes n).row). inl (⊎_elim
-      (λ (decided : IsDecided e (p.nodes n).row). decided-on n e decided)
-      (λ (offered : IsOffered n e p.front.row). all n e offered) said))
-      on.offers) h
+  offer-on : (n e : ℕ) (parts : EndpointParts) → FrontSaid p n e kind.Offer → FrontBodyActs c b p n e (body.Offer parts)
+      → FrontBodyActs c d q n e (body.Offer parts)
+  offer-on n e parts said h = ⊎_elim decided (λ other. ⊎_elim ended acts other) h where
+    decided : IsDecided e (p.nodes n).row → FrontBodyActs c d q n e (body.Offer parts)
+    decided f = inl (decided-on n e f)
+
+    ended : HasEnded e p.front.row → FrontBodyActs c d q n e (body.Offer parts)
+    ended f = inr (inl (ended-on e f))
+
+    acts : PartsAct b parts → FrontBodyActs c d q n e (body.Offer parts)
+    acts act = ⊎_elim
+        (λ (same : d.heard ≡ b.heard). inr (inr (parts-more b d on.widens same parts act)))
+        (λ (all : (n e : ℕ) → IsOffered n e p.front.row → IsDecided e (q.nodes n).row). ⊎_elim decided
+        (λ (other : IsOffered n e p.front.row ⊎ IsRefusalKnown p n e). ⊎_elim
+        (λ (offered : IsOffered n e p.front.row). inl (all n e offered)) (λ (known : IsRefusalKnown p n e). ended known.1) other) said)
+        on.offers
 
   end-on : (n e : ℕ) (x : Ending) → IsOver e (p.nodes n).row → HasEnded e p.front.row ⊎ EndActs b x → HasEnded e q.front.row ⊎ EndActs d x
   end-on n e x over h = ⊎_elim
@@ -106,12 +114,12 @@ module _ (c : ℕ) (b d : Bounds) (p q : Part) (on : GoesOn b d p q) where
       (λ (all : (n e : ℕ) → IsOver e (p.nodes n).row → HasEnded e p.front.row). inl (ended-on e (all n e over)))
       on.ends) h
 
-  front-body-on : (n e : ℕ) (a : Body) → FrontSaid p n e (kind_of a) → FrontBodyActs c b e (p.nodes n).row a → FrontBodyActs c d e (q.nodes n).row a
+  front-body-on : (n e : ℕ) (a : Body) → FrontSaid p n e (kind_of a) → FrontBodyActs c b p n e a → FrontBodyActs c d q n e a
   front-body-on n e (body.Offer parts) said h = offer-on n e parts said h
   front-body-on n e (body.Forward segment) said h = words-more b d on.widens c segment h
   front-body-on n e _ said h = tt
 
-  node-body-on : (n e : ℕ) (a : Body) → NodeSaid (p.nodes n).row e (kind_of a) → NodeBodyActs b e p.front.row a → NodeBodyActs d e q.front.row a
+  node-body-on : (n e : ℕ) (a : Body) → NodeSaid p n e (kind_of a) → NodeBodyActs b e p.front.row a → NodeBodyActs d e q.front.row a
   node-body-on n e (body.Ended reason snd rcv count) said h = end-on n e (ending.Over (record { reason = reason; snd = record { 0 = snd }; rcv = record { 0 = rcv } })) said h
   node-body-on n e _ said h = tt
 

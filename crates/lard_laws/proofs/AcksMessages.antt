@@ -92,24 +92,24 @@ module _ (b : Bounds) (part : Part) (x_c n c e : ℕ) where
   -- The Offer of an endpoint has all that was taken.
   pub offer-acts : (block : ControlBlock) (count : ℕ) → IsControlBlock block → b.heard ≡ heard_by block.recv → block.send.una ≤ b.taken → LetterActsOn x_c b part Front (Node n) (message c e (body.Offer (parts_of block count)))
   offer-acts block count sound heard una m d = go m.body refl where
-    go : (a : Body) → m.body ≡ a → FrontBodyActs x_c b m.epoch.0 (part.nodes n).row a
+    go : (a : Body) → m.body ≡ a → FrontBodyActs x_c b part n m.epoch.0 a
     go (body.Offer parts) is =
         let most = sound.sending.most in
         let sent = sound.sending.sent in
         let queued = sound.sending.queued in
         let received = sound.received.received in
         let same : numbers_in (parts_of block count) ≡ numbers_in parts = offer-read c e (parts_of block count) (omega (arith, received)) (let one = one_small block.send.finished in omega (arith, most, sent, queued)) m parts d is in
-        inr (record {
+        inr (inr (record {
           heard = heard ∙ ap (λ (z : Numbers). 1 + z.0 + one_if z.1) same;
           acknowledged = subst (λ (z : Numbers). z.2 ≤ b.taken) same una;
-        })
+        }))
     go (body.Forward segment) is = absurd (let no : kind.Offer ≡ kind.Forward = kinds-same (record { c = c; epoch = record { 0 = e }; body = body.Offer (parts_of block count) }) m d ∙ ap kind_of is in cc)
     go _ is = tt
 
   -- What is forwarded is what came.
   pub forward-acts : (bytes : List ℕ) → WordActs x_c b bytes → LetterActsOn x_c b part Front (Node n) (message c e (body.Forward bytes))
   forward-acts bytes h m d = go m.body refl where
-    go : (a : Body) → m.body ≡ a → FrontBodyActs x_c b m.epoch.0 (part.nodes n).row a
+    go : (a : Body) → m.body ≡ a → FrontBodyActs x_c b part n m.epoch.0 a
     go (body.Forward segment) is = subst (WordActs x_c b) (sym (forwards-read c e bytes segment m d is)) h
     go (body.Offer parts) is = absurd (let no : kind.Forward ≡ kind.Offer = kinds-same (record { c = c; epoch = record { 0 = e }; body = body.Forward bytes }) m d ∙ ap kind_of is in cc)
     go _ is = tt
@@ -117,7 +117,7 @@ module _ (b : Bounds) (part : Part) (x_c n c e : ℕ) where
   -- a message of another kind says nothing of it
   pub other-front : (a : Body) → (kind_of a ≡ kind.Offer → ⊥) → (kind_of a ≡ kind.Forward → ⊥) → LetterActsOn x_c b part Front (Node n) (message c e a)
   other-front a offer forward m d = go m.body (kinds-same (record { c = c; epoch = record { 0 = e }; body = a }) m d) where
-    go : (z : Body) → kind_of a ≡ kind_of z → FrontBodyActs x_c b m.epoch.0 (part.nodes n).row z
+    go : (z : Body) → kind_of a ≡ kind_of z → FrontBodyActs x_c b part n m.epoch.0 z
     go (body.Offer parts) is = absurd (offer is)
     go (body.Forward segment) is = absurd (forward is)
     go _ is = tt

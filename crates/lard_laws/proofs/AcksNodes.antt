@@ -1,14 +1,14 @@
 -- What a node does acknowledges what was taken.
 use Rattle.std.proofs.Common.{◌≡◌, ◌≢◌, ◌⊎◌, ◌≤◌, ◌<◌, ◌^◌, nat_lt, ℕ, Bool, true, false, List, [], ◌∷◌, ◌++◌, map, Option, Some, None, Ok, inr, ⊎_elim, refl, sym, ap, ◌∙◌, subst, arith}
 use Rattle.std.proofs.lemmas.Bool.{ltb-true, ltb-false}
-use Rattle.lard_law_view.specs.Prelude.{Asked, BackRow, Conn, ControlBlock, Ending, EndpointParts, Front, FrontConn, FrontRow, IsConnNumber, IsConnSound, IsNodeEnv, IsStream, IsWord, Move, Node, NodeDeed, NodeEnv, NodeGets, NodePart, Part, Place, Progress, Ready, Said as Segment, Seen, ServeEnv, Service, Setting, SpellsMessage, Station, Stay, Stream, Talk, Turn, Verdict, Want, Was, Work, adopted, after_timer, again_sent, asked_sent, came_for, come_progress, ended_sent, filled, goes_on, gone, here, kept_after, letter, node_begins, node_does, node_fired, node_put_back, node_saying, offer_answer, offered_by, on_segment, parts_of, read_progress, reads_batch, reset_count, serving, serving_ready_of, serving_settled, speaks, spoken, state_of, tagged, taken_sent, tale_at, timed, turn_by, wants_sent, with_node, with_work, without, work_of}
+use Rattle.lard_law_view.specs.Prelude.{Asked, BackRow, Conn, ControlBlock, Ending, EndpointParts, Front, FrontConn, FrontRow, IsConnNumber, IsConnSound, IsNodeEnv, IsStream, IsWord, Move, Node, NodeDeed, NodeEnv, NodeGets, NodePart, Part, Place, Progress, Ready, Said as Segment, Seen, ServeEnv, Service, Setting, SpellsMessage, Station, Stay, Stream, Talk, Turn, Verdict, Want, Was, Work, adopted, after_timer, again_sent, asked_sent, came_for, come_progress, ended_sent, filled, goes_on, gone, here, kept_after, letter, node_begins, node_does, node_fired, node_put_back, node_saying, offer_answer, offered_by, on_segment, read_progress, reads_batch, reset_count, serving, serving_ready_of, serving_settled, speaks, spoken, state_of, tagged, taken_sent, tale_at, timed, turn_by, wants_sent, with_node, with_work, without, work_of}
 use Rattle.lard_base.specs.declared.place.TimerKind.TheVariants as timer
-use Rattle.lard_laws.specs.Acks.{ActsWithin, BackActs, BackStageActs, Bounds, EndActs, FrontActs, FrontStageActs, LetterActs, PartsAct}
+use Rattle.lard_laws.specs.Acks.{ActsWithin, BackActs, BackStageActs, Bounds, EndActs, FrontActs, FrontBodyActs, FrontStageActs, LetterActs, PartsAct}
 use Rattle.lard_laws.proofs.AcksFronts as fronts
 use Rattle.lard_laws.proofs.AcksFronts.{between-held, past-acts, past-over}
 use Rattle.lard_laws.proofs.AcksGrowing.{letters-on, replies-act}
 use Rattle.lard_laws.proofs.AcksMessages.{ended-acts, other-node}
-use Rattle.lard_laws.proofs.AcksOffers.{IsOfferOf, adopted-between, new-is, new-offer}
+use Rattle.lard_laws.proofs.AcksOffers.{IsOfferOf, new-is, new-offer, offered-acts, offered-between}
 use Rattle.lard_laws.proofs.AcksReading.{Serves, stay-keeps, stays-heard, stays-holds}
 use Rattle.lard_laws.proofs.AcksTurns.{PlaceActs, idle-acts}
 use Rattle.lard_laws.proofs.NodeDeeds.{again-letters, forwarded-word}
@@ -65,10 +65,10 @@ module _ (k : Setting) (small : k.stream ≤ 2 ^ 30) (x : Conn) (number : IsConn
   own = owning (tale_at x)
 
   is_stream : IsStream l.w
-  is_stream = fronts.is_stream k small x sound_x at_place s l pend o heard_so aborted
+  is_stream = fronts.is_stream k small x number sound_x at_place s l pend o heard_so aborted
 
   iss_fits : s.iss < 2 ^ 32
-  iss_fits = fronts.iss_fits k small x sound_x at_place s l pend o heard_so aborted
+  iss_fits = fronts.iss_fits k small x number sound_x at_place s l pend o heard_so aborted
 
   -- No other place has the connection, what was offered was decided, and the end of each stay is known.
   record IsHere (n e : ℕ) : Type 0 where
@@ -335,12 +335,11 @@ module _ (k : Setting) (small : k.stream ≤ 2 ^ 30) (x : Conn) (number : IsConn
         go false e = absurd (not (ltb-false row.epoch.0 epoch e))
 
       module _ (parts : EndpointParts) (bytes : List ℕ) (spells : SpellsMessage x.c epoch (body.Offer parts) bytes) (was : Was x Front (Node n) bytes) where
-        acted : IsDecided epoch ours.row ⊎ PartsAct bounds parts
+        acted : FrontBodyActs x.c bounds x.part n epoch (body.Offer parts)
         acted = (has-each (LetterActs x.c bounds x.part) (record { from = Front; to = Node n; bytes = bytes }) x.letters was h.packets) _ spells
 
-        took-act : (IsDecided epoch ours.row → ⊥) → IsHere n env.epoch → IsBetween l.w l.out (adopted parts) → Stays (offered_by env parts ours New)
-        took-act not it between =
-            let act : PartsAct bounds parts = ⊎_elim (λ f. absurd (not f)) (λ f. f) acted in
+        took-act : PartsAct bounds parts → IsHere n env.epoch → IsBetween l.w l.out (adopted parts) → Stays (offered_by env parts ours New)
+        took-act act it between =
             let b : ControlBlock = adopted parts in
             let goes : GoesOver b = ((let same = act.heard in omega arith), (l.out, o.begins, between), (act.acknowledged, λ e. absurd cc)) in
             let first : Work = state_of (reads_batch env true (node_begins env parts)) in
@@ -351,7 +350,6 @@ module _ (k : Setting) (small : k.stream ≤ 2 ^ 30) (x : Conn) (number : IsConn
         new-act : offer_answer epoch ours.row ≡ New → Stays (offered_by env parts ours New)
         new-act new =
             let of : IsOfferOf l pend parts = new-is k.files x number at_place s l pend o n epoch parts bytes spells was new in
-            let between : IsBetween l.w l.out (adopted (parts_of of.block of.count)) = adopted-between l.w l.out l.vs pend of.block of.count of.holds of.frozen in
             let f = new-offer x at_place n epoch parts bytes spells was new in
             let e : ℕ = f.row.epoch.0 in
             let sits : StageSits e own nodes (stage.Offering f.node f.named) = subst (StageSits e own nodes) f.staged (subst (Sits own nodes) f.found at_place.sits).0 in
@@ -359,7 +357,8 @@ module _ (k : Setting) (small : k.stream ≤ 2 ^ 30) (x : Conn) (number : IsConn
             let it : IsHere n e = here-at f.row n f.found (stage.Offering f.node f.named) f.staged (λ v. tt) (subst (λ (j : ℕ). OthersArePast j e nodes) f.node_is sits.2)
             (λ i g q. (sym q.0 ∙ f.node_is, omega (arith, q.1, sits.1)))
             (λ d over. subst (HasEnded d) (sym f.found) (let under = less-over ours.row f.undecided d over in omega (arith, under, now, is.epoch_is))) in
-            took-act f.undecided (subst (IsHere n) now it) (subst (λ (q : EndpointParts). IsBetween l.w l.out (adopted q)) (sym of.same) between)
+            took-act (offered-acts bounds x.part x.c n epoch parts acted f.row f.found (sym sits.1 ∙ f.epoch_is) f.undecided)
+            (subst (IsHere n) now it) (offered-between l pend parts of)
 
       -- ---- every rule
 

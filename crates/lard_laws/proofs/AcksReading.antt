@@ -1,18 +1,22 @@
 -- What reading leaves as it was, at the front end and at a node: what was taken, what is acknowledged, and whether the peer reset the
 -- connection.
-use Rattle.std.proofs.Common.{◌≡◌, ◌≤◌, ◌+◌, ◌^◌, ℕ, zero, suc, Bool, true, List, length, Option, Some, None, sym, ap, ◌∙◌, arith}
+use Rattle.std.proofs.Common.{◌≡◌, ◌≤◌, ◌+◌, ◌^◌, ℕ, zero, suc, Bool, true, List, [], length, Option, Some, None, sym, ap, ◌∙◌, arith}
 use Rattle.std.proofs.lemmas.Bool.{cond_both}
-use Rattle.lard_law_view.specs.Prelude.{ControlBlock, Done, Found, More, Reading, ServeEnv, Service, Step, Stream, Verdict, answered, block_at, cut_of, ended_at_fin, finishing, front_reads, good_path, may_freeze, may_read, one_if, reading_left, reading_turn, reads_block, reads_found, runs_on, serving_consumed}
+use Rattle.lard_law_view.specs.Prelude.{ControlBlock, Done, Ending, Found, IsStream, More, Place, Reading, ServeEnv, Service, Step, Stream, Verdict, answered, block_at, cut_of, emits_left, end_reason, ended_at_fin, finishing, front_reads, good_path, may_freeze, may_read, one_if, reading_left, reading_turn, reads_block, reads_found, runs_on, serving_consumed, serving_settled, speaks, speaks_symbols, spoken}
+use Rattle.lard_base.specs.declared.place.Reason.TheVariants as reason
 use Rattle.lard_base.specs.declared.place.Via.TheVariants.{Own}
 use Rattle.lard_block.specs.declared.block.Found.TheVariants as found
 use Rattle.lard_law_connections.proofs.LimitsWorking.{KeptByServing}
-use Rattle.lard_law_view.proofs.EndpointStreams.{between-consumed, onward-finished}
+use Rattle.lard_law_view.proofs.EndpointStreams.{IsBetween, between-consumed, onward-finished}
 use Rattle.lard_law_view.proofs.Stopping.{unfinished-there}
-use Rattle.lard_law_view.proofs.Acked.{heard_by}
+use Rattle.lard_law_view.proofs.Acked.{heard_at, heard_by}
+use Rattle.lard_law_view.proofs.EndpointActs.{ended-heard}
 use Rattle.lard_law_view.proofs.EndpointArriving.{Holds}
 use Rattle.lard_law_view.proofs.EndpointReading.{Reads, Stays, answered-reads}
+use Rattle.lard_law_view.proofs.EndpointSaying.{Spoke, emits-spoke, emits_symbols-spoke}
 use Rattle.lard_request.specs.declared.verdict.Code.TheVariants as code
 use Rattle.lard_request.specs.declared.verdict.Verdict.TheVariants.{Fault}
+use Rattle.lard_rules.proofs.Endings.{rested-keeps, settled-keeps}
 
 -- as much was taken before it as after it
 pub stays-heard : (b d : ControlBlock) → Stays b d → heard_by d.recv ≡ heard_by b.recv
@@ -78,3 +82,22 @@ module _ (w : Stream) (first : ℕ) (b : ControlBlock) (env : ServeEnv) (most : 
 
   pub reads-serves : (s : Service) → Serves s → Serves (front_reads env (record { service = s; target = None })).service
   reads-serves s h = stops-on (reading_left (record { service = s; target = None }) + 1) (record { service = s; target = None }) h
+
+-- ---- the end of a turn
+
+module _ (env : ServeEnv) (w out : Stream) (is : IsStream w) where
+  -- it takes nothing
+  pub spoken-heard : (s : Service) (before : List (Place × List ℕ)) → IsBetween w out s.block → heard_at w.first (spoken env s before).0 ≡ heard_by s.block.recv
+  spoken-heard s before h =
+      let said = speaks env.c s.block in
+      let talk : Spoke env.c w out s.block said = emits-spoke env.c w out (emits_left s.block) s.block h in
+      let recv : heard_by said.1.recv ≡ heard_by s.block.recv = ap heard_by talk.left.0 in
+      rested-keeps (λ (e : Ending). heard_at w.first e ≡ heard_by s.block.recv) said.1 s.count
+      (λ t. ended-heard w out said.1 (end_reason said.1) is talk.between ∙ recv) (λ t. recv)
+
+  pub settled-heard : (s : Service) → IsBetween w out s.block → heard_at w.first (serving_settled env s).0 ≡ heard_by s.block.recv
+  settled-heard s h =
+      let said = speaks_symbols env.c s.block in
+      let talk : Spoke env.c w out s.block said = emits_symbols-spoke env.c w out (emits_left s.block) s.block h in
+      settled-keeps (λ given. heard_at w.first given.0 ≡ heard_by s.block.recv) env s (λ e. spoken-heard s [] h)
+      (λ total e. ended-heard w out said.1 reason.Limit is talk.between ∙ ap heard_by talk.left.0)

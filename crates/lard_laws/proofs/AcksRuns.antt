@@ -64,7 +64,7 @@ module _ (k : Setting) (small : k.stream ≤ 2 ^ 30) where
       (ap (story_seen x.c (story_at x)) (front-heads x heads d)
       ∙ of-front x (λ (ss : List Seen). story_seen x.c (story_at x) ss ≡ story_at x) (λ from bytes. refl) refl (timer-plain x Front) env heads g comes)
       (front-station x heads d) (λ help t at h o heard within.
-      fronts_of.rule-act k small x help.sound help.placed t h.talk h.pend o heard (story_at x).aborted at within heads env is g comes))
+      fronts_of.rule-act k small x help.number help.sound help.placed t h.talk h.pend o heard (story_at x).aborted at within heads env is g comes))
 
   -- ---- the nodes
 

@@ -15,7 +15,7 @@ use Rattle.lard_law_connections.proofs.MotionElsewhere.{IsKnown}
 use Rattle.lard_law_connections.proofs.MotionPicking.{pick, pick-append, pick-none}
 use Rattle.lard_law_connections.proofs.PolicyAsides.{IsAside, allows-aside}
 use Rattle.lard_law_connections.proofs.Calm.{changed-calm, first-calm, first_rows, last-calm, last_rows, told-journal}
-use Rattle.lard_law_connections.proofs.PolicyMessages.{IsTold as IsDecoded, message-told}
+use Rattle.lard_rules.proofs.MessageTold.{IsTold as IsDecoded, message-told}
 use Rattle.lard_law_view.proofs.After.{IsAfter}
 use Rattle.lard_law_view.proofs.Naming.{Names, decoded-names}
 use Rattle.lard_history.proofs.Each.{Each, Each-weaker}

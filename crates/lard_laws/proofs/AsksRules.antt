@@ -1,7 +1,7 @@
 -- Each rule keeps what is known of the last Ask, and answers as it must.
-use Rattle.std.proofs.Common.{◌≡◌, ◌≤◌, ℕ, List, [], ◌∷◌, ◌++◌, length, map, None, Result, Ok, Err, refl, sym, ap, ◌∙◌, subst, arith}
+use Rattle.std.proofs.Common.{◌≡◌, ◌≤◌, ℕ, List, [], ◌∷◌, ◌++◌, length, map, None, Result, Ok, Err, refl, sym, ap, ◌∙◌, subst, arith, Some}
 use Rattle.std.specs.List.{fold}
-use Rattle.lard_law_view.specs.Prelude.{Ask, AskedBy, Body, Client, ClientBlock, ClientRules, Conn, EndedBy, Front, FrontAdmits, FrontEnv, FrontFires, FrontGets, FrontHears, FrontPart, IsForFront, IsFrontEnv, IsOfTable, IsUnheard, Message, Move, MsgFault, Node, Place, Rec, Rules, Seen, Setting, SpellsMessage, Station, Turn, ask_of, client_begins, client_does, client_injects, client_opens, client_rule, decoded_message, event_seen, front_asked, front_does, front_rule, grown, inject_seen, kind_of, listed, node_does, nothing_said, packet_seen, stands}
+use Rattle.lard_law_view.specs.Prelude.{Ask, AskedBy, Body, Client, ClientBlock, ClientRules, Conn, EndedBy, Front, FrontAdmits, FrontEnv, FrontFires, FrontGets, FrontHears, FrontPart, IsForFront, IsFrontEnv, IsOfTable, IsUnheard, Message, Move, MsgFault, Node, Place, Rec, ReturnedBy, Rules, Seen, Setting, SpellsMessage, Station, Turn, ask_of, client_begins, client_does, client_injects, client_opens, client_rule, decoded_message, event_seen, front_asked, front_does, front_rule, grown, inject_seen, kind_of, listed, node_does, nothing_said, packet_seen, stands}
 use Rattle.lard_law_view.proofs.EachClient.{each-client, of-client}
 use Rattle.lard_law_view.proofs.EachFront.{FrontComes, admission, each-front, of-front}
 use Rattle.lard_law_view.proofs.EachNode.{aside_said, aside_seen, each-node, job_notes, told_first}
@@ -14,7 +14,7 @@ use Rattle.lard_law_connections.specs.MotionStory.{picked}
 use Rattle.lard_law_connections.proofs.MotionElsewhere.{IsElse, IsKnown}
 use Rattle.lard_law_connections.proofs.MotionNodes.{IsFirst}
 use Rattle.lard_law_connections.proofs.MotionPicking.{pick}
-use Rattle.lard_law_connections.proofs.PolicyMessages.{IsTold, message-told}
+use Rattle.lard_rules.proofs.MessageTold.{IsTold, message-told}
 use Rattle.lard_law_view.specs.View.{sending}
 use Rattle.lard_law_view.proofs.Fine.{IsItsOwn}
 use Rattle.lard_law_view.proofs.Saying.{NotedAt}
@@ -99,6 +99,8 @@ module _ (k : Setting) (x : Conn) (env : FrontEnv) (is : IsFrontEnv k x.c env) w
   none-asked : (heads : List Seen) (g : FrontGets) → FrontComes x env heads g → fronts.IsNoAsk g → picked ask_in heads ≡ []
   none-asked heads (AskedBy n epoch ask) comes other = absurd other
   none-asked heads (EndedBy n epoch last) comes other = ap (picked ask_in) comes.told.seen ∙ no-ask n epoch (body.Ended last.reason last.snd.0 last.rcv.0 comes.count) comes.told.bytes comes.told.spells refl
+  none-asked heads (ReturnedBy n epoch None) comes other = ap (picked ask_in) comes.seen ∙ no-ask n epoch body.Refused comes.bytes comes.spells refl
+  none-asked heads (ReturnedBy n epoch (Some parts)) comes other = ap (picked ask_in) comes.seen ∙ no-ask n epoch (body.Give parts) comes.bytes comes.spells refl
   none-asked heads (FrontHears bytes given) comes other = ap (picked ask_in) comes.seen
   none-asked heads FrontFires comes other = ap (picked ask_in) comes.seen
   none-asked heads (FrontAdmits choice given) comes other = ap (picked ask_in) comes.seen

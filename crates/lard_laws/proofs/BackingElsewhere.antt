@@ -4,8 +4,7 @@ use Rattle.lard_law_view.specs.Prelude.{Client, Event, Front, HasRule, IsViewed,
 use Rattle.lard_laws.proofs.BackingHitting.{IsStill}
 use Rattle.lard_law_connections.proofs.Calm.{Allows, AllowsNotes, IsCalm, every-clock}
 use Rattle.lard_law_connections.proofs.Forms.{NodesStay, nodes-calm}
-use Rattle.lard_law_view.proofs.Saying.{NamesAll, NotedAt}
-use Rattle.lard_law_view.proofs.Shapes.{NamesNobody}
+use Rattle.lard_law_view.proofs.Saying.{NamesAll, NamesNobody, NotedAt}
 use Rattle.lard_journal.specs.declared.rec.Rec.TheVariants as rec
 
 pub allows-still : Allows IsStill

@@ -1,6 +1,6 @@
 -- The rules of the front end: a first assignment is of the next request, behind the answers to all that was assigned.
 use Rattle.std.proofs.Common.{◌≡◌, ◌≤◌, ◌+◌, ◌^◌, ℕ, Bool, true, false, List, [], ◌∷◌, ◌++◌, Option, Some, None, refl, sym, ap, ◌∙◌, subst}
-use Rattle.lard_law_view.specs.Prelude.{Ask, Conn, ControlBlock, FilesAt, FirstChoice, Front, FrontConn, FrontDeed, FrontEnv, FrontGets, FrontPart, FrontRow, IsFrontEnv, IsWord, LaterChoice, Move, Node, Place, Reading, Rec, Said, Seen, Service, Setting, Station, Talk, Verdict, assigned_notes, front_does, front_reads, front_rest, front_rule, last_words, over_note, serving, serving_settled, tombstone, turn_here}
+use Rattle.lard_law_view.specs.Prelude.{Ask, Conn, ControlBlock, EndpointParts, FilesAt, FirstChoice, Front, FrontConn, FrontDeed, FrontEnv, FrontGets, FrontPart, FrontRow, IsConnNumber, IsFrontEnv, IsWord, LaterChoice, Move, Node, Place, Rec, Said, Seen, Service, Setting, Station, Talk, Verdict, assigned_notes, front_does, front_reads, front_rest, front_rule, given_sent, last_words, over_note, serving, serving_settled, tombstone, turn_here}
 use Rattle.lard_laws.specs.BackingRequests.{IsFor}
 use Rattle.lard_laws.proofs.BackingMoving.{Keeps, makes, others-for}
 use Rattle.lard_laws.proofs.BackingNext.{next-for}
@@ -9,13 +9,12 @@ use Rattle.lard_laws.proofs.BackingTurns.{IsSteady, steady-backs}
 use Rattle.lard_law_connections.specs.BytesAgreement.{FrontWaits, IsOpen, SeatAgrees, StageAgrees}
 use Rattle.lard_law_connections.specs.BytesKeeping.{IsFrontTalk}
 use Rattle.lard_law_connections.proofs.PlacesLoops.{settled-is}
-use Rattle.lard_law_connections.proofs.PolicyAsides.{IsAside}
-use Rattle.lard_law_connections.proofs.PolicyReading.{reads-notes}
-use Rattle.lard_law_view.proofs.Saying.{NotedAt}
-use Rattle.lard_laws.specs.WaysState.{BeginsWithRequest, GoesItsWay, IsAllAnswered, WaitsForNext, SeatWays, StageWays, marks_at}
+use Rattle.lard_law_connections.proofs.PlacesTurns.{IsPlaced}
+use Rattle.lard_laws.specs.WaysState.{BeginsWithRequest, GoesItsWay, WaitsForNext, SeatWays, StageWays, marks_at}
 use Rattle.lard_laws.specs.Ways.{WayMarks}
 use Rattle.lard_laws.proofs.WaysFrontStays as ways
-use Rattle.lard_laws.proofs.WaysMarking.{mark, marked}
+use Rattle.lard_laws.proofs.WaysMarking.{mark}
+use Rattle.lard_base.specs.declared.place.Via.TheVariants.{Own}
 use Rattle.lard_rules.specs.Front.{Says}
 use Rattle.lard_handoff_front.specs.declared.row.FrontConn.TheVariants as stage
 use Rattle.lard_history.proofs.Each.{Each}
@@ -24,37 +23,13 @@ use Rattle.lard_law_connections.specs.BytesAgreement.{IsTruthful}
 use Rattle.lard_law_connections.proofs.BytesClientMoves.{open-at}
 use Rattle.lard_law_connections.proofs.BytesFrontMessages.{opened-at}
 use Rattle.lard_law_connections.proofs.BytesFrontMoves.{talk-of}
-use Rattle.lard_law_view.proofs.EachFront.{FrontComes, admission}
+use Rattle.lard_law_view.proofs.EachFront.{FrontComes, HasBack, admission}
 use Rattle.lard_laws.proofs.FrontComing.{heard-word}
-use Rattle.lard_rules.proofs.FrontCases.{IsInStage, KeptByFront, KeptBySegment, front-keeps, hands_off, heard_reading, of-stage}
+use Rattle.lard_laws.proofs.FrontReturning.{reads-note}
+use Rattle.lard_rules.proofs.FrontCases.{IsBack, IsInStage, KeptByFront, KeptByReturn, KeptBySegment, back_service, front-keeps, hands_off, heard_reading, heard_service, of-stage}
 use Rattle.lard_law_view.proofs.Deeds.{front-place}
 
 -- ---- notes
-
-each-front : (P : Rec → Type 0) (xs ys : List Rec) → Each P (xs ++ ys) → Each P xs
-each-front P [] ys h = tt
-each-front P (x ∷ xs) ys h = (h.0, each-front P xs ys h.1)
-
-module _ (files : FilesAt) (m : WayMarks) where
-  -- what is read and answered
-  aside-steady : (c : ℕ) (r : Rec) → NotedAt Front c r → IsAside r → IsSteady files m r
-  aside-steady c (rec.Took Front d epoch) own a = (tt, tt)
-  aside-steady c (rec.Served Front d r code size way) own a = (tt, tt)
-  aside-steady c (rec.Reset Front d total) own a = (tt, tt)
-  aside-steady c (rec.Waits d) own a = absurd a
-  aside-steady c (rec.Admitted d) own a = absurd a
-  aside-steady c (rec.AssignedFirst d r path n add remove) own a = absurd a
-  aside-steady c (rec.AssignedLater d r path n add size queue) own a = absurd a
-  aside-steady c (rec.BatchOver d) own a = absurd a
-  aside-steady c (rec.Released d) own a = absurd a
-  aside-steady c _ own a = absurd own
-
-  asides-steady : (c : ℕ) (rs : List Rec) → Each (NotedAt Front c) rs → Each IsAside rs → Each (IsSteady files m) rs
-  asides-steady c [] own a = tt
-  asides-steady c (r ∷ rs) own a = (aside-steady c r own.0 a.0, asides-steady c rs own.1 a.1)
-
-  asides-back : (c : ℕ) (rs : List Rec) → Each (NotedAt Front c) rs → Each IsAside rs → Backs files m rs
-  asides-back c rs own a = steady-backs files m rs (asides-steady c rs own a)
 
 -- later requests
 later-backs : (files : FilesAt) (c : ℕ) (ask : Ask) (m : WayMarks) (r : ℕ) (paths : List (List ℕ)) (choices : List LaterChoice) → Backs files m (assigned_notes c ask r paths choices)
@@ -90,23 +65,41 @@ module _ (k : Setting) (small : k.stream ≤ 2 ^ 30) (x : Conn) (truth : IsTruth
 
   -- what it notes is said rightly
   abbrev Goal : FrontDeed → Type 0
-  Goal d = let rs : List Rec = (front_does x heads d).said.notes in Each (NotedAt Front x.c) rs → GoesItsWay files x → Backs files m rs
+  Goal d = IsConnNumber x.c → IsPlaced x → GoesItsWay files x → Backs files m (front_does x heads d).said.notes
 
-  -- what was read: what it notes is told, all that was assigned is answered then, and the next request is for the path that is to be placed
+  -- What was read: what it notes is told, all that was assigned is answered then, and the next request is for the path that is to be placed.
   record Looked (w : Service) (target : Option (List ℕ)) : Type 0 where
-    aside : Each IsAside w.notes
-    told : marked m w.notes ≡ record m { served = w.count }
-    answered : IsAllAnswered files (record m { served = w.count })
-    for : (path : List ℕ) → target ≡ Some path → IsFor files m.wrote (w.count + 1) path
+    steady : Each (IsSteady files m) w.notes
+    way : ways.Looked k small x truth env is heads w target
 
   abbrev Came : Service → Option (List ℕ) → Type 0
-  Came w target = GoesItsWay files x → Looked w target
+  Came w target = IsConnNumber x.c → IsPlaced x → GoesItsWay files x → Looked w target
+
+  -- what is read and answered
+  reads-steady : (w : Service) → Each (IsSteady files m) w.notes
+      → Each (IsSteady files m) (front_reads env.serve (record { service = w; target = None })).service.notes
+  reads-steady = reads-note (IsSteady files m) env.serve
+      (λ r code size. subst (λ (place : Place). IsSteady files m (rec.Served place env.serve.c r code size Own)) (sym is.place) (tt, tt)) (λ total. (tt, tt))
 
   -- what it read is said, and then this
-  looked-backs : (w : Service) (target : Option (List ℕ)) (more : List Rec) → Looked w target → Each (NotedAt Front x.c) (w.notes ++ more) → Backs files (record m { served = w.count }) more → Backs files m (w.notes ++ more)
-  looked-backs w target more looked noted h =
-      backs-append files m w.notes more (asides-back files m x.c w.notes (each-front (NotedAt Front x.c) w.notes more noted) looked.aside)
-      (subst (λ (q : WayMarks). Backs files q more) (sym looked.told) h)
+  looked-backs : (w : Service) (target : Option (List ℕ)) (more : List Rec) → (looked : Looked w target)
+      → Backs files (record looked.way.behind { served = w.count }) more → Backs files m (w.notes ++ more)
+  looked-backs w target more looked h =
+      backs-append files m w.notes more (steady-backs files m w.notes looked.steady)
+          (subst (λ (q : WayMarks). Backs files q more) (sym looked.way.looks.told) h)
+
+  held-backs : (w : Service) → Looked w None → Backs files m (serving_settled env.serve w).1.notes
+  held-backs w looked = subst (Backs files m) (sym (settled-is env.serve w).notes) (steady-backs files m w.notes looked.steady)
+
+  placed-backs : (w : Service) (path : List ℕ) (choice : FirstChoice) → Looked w (Some path)
+      → Backs files m (w.notes ++ rec.Admitted env.serve.c ∷ rec.AssignedFirst env.serve.c (w.count + 1) path choice.node choice.add choice.remove ∷ [])
+  placed-backs w path choice looked =
+      let f = looked.way.frozen path refl in
+      let for : IsFor files looked.way.behind.wrote (w.count + 1) path =
+      subst (λ (q : List ℕ). IsFor files q (w.count + 1) path) (sym f.wrote)
+          (next-for files f.w f.out f.vs w.block w.count f.holds.holds f.frozen path f.next) in
+      looked-backs w (Some path) (rec.Admitted env.serve.c ∷ rec.AssignedFirst env.serve.c (w.count + 1) path choice.node choice.add choice.remove ∷ []) looked
+      (tt, ((looked.way.looks.answered.0, refl, for), tt))
 
   -- ---- of one whose client opened
 
@@ -126,41 +119,30 @@ module _ (k : Setting) (small : k.stream ≤ 2 ^ 30) (x : Conn) (truth : IsTruth
 
     module _ (talk : IsFrontTalk env l.w l.out l.vs) (sd : Said) (word : IsWord l.w sd) where
       row-looks : (row : FrontRow) (b : ControlBlock) → IsInStage p row (stage.Held b) → Came (front_reads env.serve (heard_reading p b sd)).service (front_reads env.serve (heard_reading p b sd)).target
-      row-looks row b at g =
-          let y : Reading = front_reads env.serve (heard_reading p b sd) in
-          let a : ways.Looked k small x truth env is heads y.service y.target = ways.row-looks k small x truth env is heads s there talk sd word row b at g in
-          record {
-            aside = reads-notes env.serve (heard_reading p b sd) tt;
-            told = a.looks.told;
-            answered = a.looks.answered;
-            for = λ path e.
-                let f = a.frozen path e in
-                subst (λ (q : List ℕ). IsFor files q (y.service.count + 1) path) (sym f.wrote) (next-for files f.w f.out f.vs y.service.block y.service.count f.holds.holds f.frozen path f.next);
-          }
+      row-looks row b at number placed g = record {
+        steady = reads-steady (heard_service p b sd) tt;
+        way = ways.row-looks k small x truth env is heads s there talk sd word row b at number placed g;
+      }
 
       by-segment : (bytes : List ℕ) → KeptBySegment env p bytes sd Came Goal
       by-segment bytes = record {
-        drops = λ noted g. tt;
-        begins = λ none plain noted g. (tt, tt);
+        drops = λ number placed g. tt;
+        begins = λ none plain number placed g. (tt, tt);
         reads = row-looks;
-        holds = λ row b w at came noted g.
-            let same : (serving_settled env.serve w).1.notes ≡ w.notes = (settled-is env.serve w).notes in
-            subst (Backs files m) (sym same) (asides-back files m x.c w.notes (subst (Each (NotedAt Front x.c)) same noted) (came g).aside);
-        hands = λ row b w path choice at came is noted g.
-            let more : List Rec = rec.Admitted env.serve.c ∷ rec.AssignedFirst env.serve.c (w.count + 1) path choice.node choice.add choice.remove ∷ [] in
-            looked-backs w (Some path) more (came g) noted (tt, (((came g).answered.0, refl, (came g).for path refl), tt));
-        waits = λ row b w path at came is noted g. looked-backs w (Some path) (rec.Waits env.serve.c ∷ []) (came g) noted (tt, tt);
-        stays = λ row b at noted g. tt;
-        forwards = λ row n e at noted g. tt;
+        holds = λ row b w at came number placed g. held-backs w (came number placed g);
+        hands = λ row b w path choice at came is number placed g. placed-backs w path choice (came number placed g);
+        waits = λ row b w path at came is number placed g. looked-backs w (Some path) (rec.Waits env.serve.c ∷ []) (came number placed g) (tt, tt);
+        stays = λ row b at number placed g. tt;
+        forwards = λ row n e at number placed g. tt;
         words = λ row last at. tombs (last_words last.reason last sd);
       } where
         tombs : (said : Option Said) → Goal (Says (turn_here (tombstone env.serve said)))
-        tombs None noted g = tt
-        tombs (Some t) noted g = tt
+        tombs None number placed g = tt
+        tombs (Some t) number placed g = tt
 
     -- it is admitted, from the head of the line
     admits-backs : (row : FrontRow) (b : ControlBlock) (path : List ℕ) → IsInStage p row (stage.Waiting b) → (front_rest p.rest).target ≡ Some path → (choice : FirstChoice) → Goal (hands_off env row (serving b count []) path choice [])
-    admits-backs row b path at is_target choice noted g =
+    admits-backs row b path at is_target choice number placed g =
         let fh : FrontWaits l.w l.out l.vs pend b count = truth-at row (stage.Waiting b) at in
         let seat = seat-at row (stage.Waiting b) at g in
         let next : BeginsWithRequest files b.recv.unread path = subst (WaitsForNext files b.recv.unread) is_target seat.1 in
@@ -168,21 +150,38 @@ module _ (k : Setting) (small : k.stream ≤ 2 ^ 30) (x : Conn) (truth : IsTruth
         let served : count + 1 ≡ m.served + 1 = ap (λ (i : ℕ). i + 1) (fh.0.holds.counted ∙ sym o.tale.served) in
         (tt, ((seat.0.0, served, for), tt))
 
+  -- ---- it comes back
+
+  by-return : (n epoch : ℕ) (given : Option EndpointParts) → HasBack x n epoch given heads → (row : FrontRow) (parts : EndpointParts)
+      → IsBack p n epoch given row parts
+      → KeptByReturn env p (given_sent env.serve.c n epoch given) row parts Came Goal
+  by-return n epoch given comes row parts back = record {
+    reads = λ number placed g. record {
+      steady = reads-steady (back_service env row parts) ((tt, tt), ((tt, tt), tt));
+      way = ways.returned-looks k small x truth env is heads n epoch given comes row parts back number placed g;
+    };
+    holds = λ w came number placed g. held-backs w (came number placed g);
+    hands = λ w path choice came is number placed g. placed-backs w path choice (came number placed g);
+    waits = λ w path came is number placed g. looked-backs w (Some path) (rec.Waits env.serve.c ∷ []) (came number placed g) (tt, tt);
+  }
+
   -- ---- whatever comes
 
   by-rules : KeptByFront env p (FrontComes x env heads) Came Goal
   by-rules = record {
-    drops = λ noted g. tt;
+    drops = λ number placed g. tt;
     hears = λ bytes sd c.
         let o : IsOpen k.files x l truth.pend c.station = open-at k.files x c.station c.there truth in
         by-segment c.station c.there (talk-of k small x env is c.station l truth.pend o c.iss_is) sd (heard-word x c.station env bytes heads k.files l truth.pend o sd c) bytes;
-    fires = λ c. record { drops = λ noted g. tt; holds = λ row b at noted g. tt; stays = λ row b at noted g. tt; resends = λ row n e at noted g. tt };
-    takes = λ from epoch c row n e at same noted g. tt;
-    tags_again = λ n epoch ask c rest found there same some noted g. tt;
-    assigns_next = λ n epoch ask c rest found there next noted g.
+    fires = λ c. record { drops = λ number placed g. tt; holds = λ row b at number placed g. tt; stays = λ row b at number placed g. tt; resends = λ row n e at number placed g. tt };
+    takes = λ from epoch c row n e at same number placed g. tt;
+    tags_again = λ n epoch ask c rest found there same some number placed g. tt;
+    assigns_next = λ n epoch ask c rest found there next number placed g.
         over-backs files env.serve.c m (env.later ask).over _ (later-backs files env.serve.c ask m rest.assigned ask.paths (env.later ask).choices);
-    ends_again = λ n epoch last c row found away again noted g. tt;
-    ends = λ n epoch last c row found away noted g. (tt, (tt, tt));
+    ends_again = λ n epoch last c row found away again number placed g. tt;
+    ends = λ n epoch last c row found away number placed g. (tt, (tt, tt));
+    gives_again = λ n epoch parts c row found past number placed g. tt;
+    returns = λ n epoch given c row parts back. by-return n epoch given c row parts back;
     admits = λ choice made met row b path at target.
         let opened = opened-at k.files x truth (λ u. let no : Some row ≡ None = sym at.0 ∙ u.front in absurd cc) in
         admits-backs opened.0 opened.1 row b path at target choice;
@@ -190,7 +189,7 @@ module _ (k : Setting) (small : k.stream ≤ 2 ^ 30) (x : Conn) (truth : IsTruth
 
   pub front-makes : (g : FrontGets) → FrontComes x env heads g → Keeps k.files x (front_does x heads (front_rule env p g))
   front-makes g comes = subst (λ (f : FilesAt). Keeps f x v) is.files (λ help way old.
-      makes files x v (front-keeps env p (FrontComes x env heads) Came Goal by-rules g (admission x env heads g comes) comes (subst (λ (q : Place). Each (NotedAt q x.c) v.said.notes) at help.own.notes) way)
+      makes files x v (front-keeps env p (FrontComes x env heads) Came Goal by-rules g (admission x env heads g comes) comes help.number help.placed way)
       (others-for files m.wrote v.place other v.said.segments) (others-for files m.wrote v.place other v.said.messages) help way old) where
         v : Move
         v = front_does x heads (front_rule env p g)

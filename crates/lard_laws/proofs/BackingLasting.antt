@@ -23,7 +23,7 @@ all-last s e = ap (λ (b : Bool). cond b (without_last s.list) s.list) e
 whole : (xs : List Assigned) → IsPrefix xs xs
 whole xs = ([], sym (append-nil xs))
 
-without-pushed : (xs : List Assigned) (a : Assigned) → without_last (xs ++ a ∷ []) ≡ xs
+pub without-pushed : (xs : List Assigned) (a : Assigned) → without_last (xs ++ a ∷ []) ≡ xs
 without-pushed xs a =
     let one : length (xs ++ a ∷ []) - 1 ≡ length xs = omega (arith, length_push xs a) in
     ap (λ (n : ℕ). take n (xs ++ a ∷ [])) one ∙ take-append_seam xs (a ∷ [])

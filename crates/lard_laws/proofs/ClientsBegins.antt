@@ -1,9 +1,12 @@
 -- A connection has one first number of the cluster's side wherever it is, in every run: each rule keeps it.
 use Rattle.std.proofs.Common.{◌≡◌, ◌<◌, ◌^◌, ℕ, List, [], ◌∷◌, ◌++◌, map, Option, Some, None, Ok, refl, sym, ap, ◌∙◌, subst}
-use Rattle.lard_law_view.specs.Prelude.{AreSent, ClientBlock, ClientRules, Config, Conn, ControlBlock, Front, FrontEnv, FrontFires, FrontGets, FrontHears, FrontRules, IsConnSound, IsFrontEnv, IsLaw, IsNodeEnv, Kept, MayRestOn, Move, Node, NodeEnv, NodeRules, OfEach, Place, Rec, Rules, Said, Seen, Setting, Station, Turn, TurnSaid, client_begins, client_does, client_injects, client_opens, client_rule, front_does, front_rule, grown, inject_seen, letter, letters_of, node_does, nothing_said, packet_seen, sent_of, setting, stands, with_leaving}
+use Rattle.lard_law_view.specs.Prelude.{AreSent, ClientBlock, ClientRules, Config, Conn, ControlBlock, EndpointParts, Front, FrontEnv, FrontFires, FrontGets, FrontHears, FrontRow, FrontRules, IsConnSound, IsFrontEnv, IsLaw, IsNodeEnv, Kept, MayRestOn, Move, Node, NodeEnv, NodeRules, OfEach, Place, Rec, ReturnedBy, Rules, Said, Seen, Setting, Station, Turn, TurnSaid, adopted, client_begins, client_does, client_injects, client_opens, client_rule, front_does, front_rule, grown, inject_seen, letter, letters_of, node_does, nothing_said, packet_seen, sent_of, setting, stands, with_leaving}
 use Rattle.lard_law_view.proofs.EachClient.{client_seen, each-client}
 use Rattle.lard_history.proofs.Each.{Each, Each-append}
+use Rattle.lard_law_connections.proofs.PlacesFrontMessages.{no-give}
 use Rattle.lard_law_connections.proofs.PlacesFrontRules.{has-each}
+use Rattle.lard_law_connections.proofs.PlacesRuns.{each-placed}
+use Rattle.lard_law_connections.proofs.PlacesTurns.{IsPlaced}
 use Rattle.lard_law_connections.proofs.SilenceEndpoints.{Anything}
 use Rattle.lard_law_connections.proofs.SilenceFronts as fronts
 use Rattle.lard_law_connections.proofs.SilenceNodes as nodes
@@ -11,7 +14,7 @@ use Rattle.lard_law_connections.proofs.SilencePlaces.{known-front, node-weaker}
 use Rattle.lard_law_connections.proofs.SilenceTurns.{nobody}
 use Rattle.lard_law_connections.specs.SilencePlaces.{NodeHas}
 use Rattle.lard_law_view.proofs.Carried.{carried}
-use Rattle.lard_law_view.proofs.EachFront.{FrontComes, admission, each-front}
+use Rattle.lard_law_view.proofs.EachFront.{FrontComes, HasBack, admission, each-front}
 use Rattle.lard_law_view.proofs.EachNode.{NodeComes, aside_said, aside_seen, each-node, job_notes, told_first}
 use Rattle.lard_law_view.proofs.Fine.{IsFine, IsItsOwn, fine}
 use Rattle.lard_law_view.proofs.Guarded.{both, weaker}
@@ -22,15 +25,13 @@ use Rattle.lard_laws.specs.Windows.{AnyBlock}
 use Rattle.lard_laws.proofs.ClientsFirsts.{client-first, first-kept, forward-tells, front-first, front-tells, node-first, told-first, words-greet}
 use Rattle.lard_laws.proofs.ClientsTelling as telling
 use Rattle.lard_laws.proofs.ClientsTelling.{AllTell, DeedTells}
+use Rattle.lard_laws.proofs.FrontComing.{IsKeptOffer, kept-offer}
 use Rattle.lard_laws.proofs.NodeDeeds.{aside-letters}
 use Rattle.lard_message.specs.declared.message.Body.TheVariants as body
+use Rattle.lard_rules.proofs.FrontCases.{IsBack}
 use Rattle.lard_rules.specs.Front as front
 use Rattle.lard_rules.specs.Node as node
 use Rattle.lard_law_view.proofs.Deeds.{front-station, node-station}
-
--- no other law is needed
-abbrev Nothing : Conn → Type 0
-Nothing x = Unit {0}
 
 -- ---- of one number
 
@@ -97,7 +98,7 @@ some-station s t e = cc
 
 module _ (k : Setting) where
   abbrev Keeps : Conn → Move → Type 0
-  Keeps x v = IsItsOwn x v → MayRestOn Nothing x → HasOneFirst x → HasOneFirst (grown x v)
+  Keeps x v = IsItsOwn x v → MayRestOn IsPlaced x → HasOneFirst x → HasOneFirst (grown x v)
 
   -- a machine's move, whichever number it is
   by-number : (x : Conn) (v : Move) → v.part.station ≡ x.part.station
@@ -115,23 +116,35 @@ module _ (k : Setting) where
   front-rule x env heads d is has tells h = by-number x (front_does x heads d) (front-station x heads d)
       (λ iss small there all. front-does-first x iss small all heads d (subst (λ (c : ℕ). fronts.DeedHas (IssIs iss) (Reply iss) c d) is.number (has iss small there all)) (tells iss small all)) h
 
-  module _ (x : Conn) (env : FrontEnv) (heads : List Seen) (iss : ℕ) (small : iss < 2 ^ 32) (all : AllHaveFirst x iss) where
+  module _ (x : Conn) (sound : IsConnSound x) (at_place : IsPlaced x) (env : FrontEnv) (heads : List Seen) (iss : ℕ) (small : iss < 2 ^ 32)
+      (all : AllHaveFirst x iss) where
+    -- one that comes back goes on from an Offer
+    back-first : (n epoch : ℕ) (given : Option EndpointParts) → HasBack x n epoch given heads → (row : FrontRow) (parts : EndpointParts)
+        → IsBack x.part.front n epoch given row parts → IssIs iss (adopted parts)
+    back-first n epoch (Some found) comes row parts back = absurd (no-give x at_place n epoch found comes.bytes comes.was comes.spells)
+    back-first n epoch None comes row parts back =
+        let k : IsKeptOffer x parts = kept-offer x sound parts back.parts_are in
+        has-each (LetterHasFirst x.c iss) (record { from = Front; to = Node k.node; bytes = k.first.bytes }) x.letters k.was all.letters
+        (record { c = x.c; epoch = record { 0 = k.epoch }; body = body.Offer parts }) k.spells
+
     heard-given : ((s : Station) → x.part.station ≡ Some s → s.iss ≡ iss) → (g : FrontGets) → FrontComes x env heads g
         → fronts.Given env (IssIs iss) (IssIs iss) Anything (Reply iss) (first-kept iss env.serve) x.part.front all.front g
     heard-given at (FrontHears bytes (Ok s)) comes = (tt, (λ none plain. comes.iss_is ∙ at comes.station comes.there), (λ row last found closed. words-greet iss last.reason last s))
+    heard-given at (ReturnedBy n epoch given) comes = back-first n epoch given comes
     heard-given at _ comes = tt
 
-    told-given : IsConnSound x → (g : FrontGets)
+    told-given : (g : FrontGets) → FrontComes x env heads g
         → telling.Given (λ to bytes. HasFirstOn x.c iss Front to bytes) env (IssIs iss) (front-tells x.c iss small env.serve.c) x.part.front all.front (Reply iss) (first-kept iss env.serve) g
-    told-given sound (FrontHears bytes given) = forward-tells x.c iss small env.serve.c bytes
-    told-given sound FrontFires = kept-first x iss small all x.part.front.kept sound.front
-    told-given sound _ = tt
+    told-given (FrontHears bytes given) comes = forward-tells x.c iss small env.serve.c bytes
+    told-given FrontFires comes = kept-first x iss small all x.part.front.kept sound.front
+    told-given (ReturnedBy n epoch given) comes = back-first n epoch given comes
+    told-given _ comes = tt
 
   front-rules : FrontRules k Keeps
   front-rules = each-front k Keeps (λ x env heads g is comes own may. front-rule x env heads (front_rule env x.part.front g) is
-      (λ n small at all. fronts.rule-has env (IssIs n) (IssIs n) Anything (Reply n) (first-kept n env.serve) x.part.front all.front g (admission x env heads g comes) (heard-given x env heads n small all at g comes))
+      (λ n small at all. fronts.rule-has env (IssIs n) (IssIs n) Anything (Reply n) (first-kept n env.serve) x.part.front all.front g (admission x env heads g comes) (heard-given x may.sound may.given env heads n small all at g comes))
       (λ n small all. telling.rule-tells (λ to bytes. HasFirstOn x.c n Front to bytes) env (IssIs n) (front-tells x.c n small env.serve.c) x.part.front all.front (Reply n) (first-kept n env.serve) g
-      (admission x env heads g comes) (told-given x env heads n small all may.sound g)))
+      (admission x env heads g comes) (told-given x may.sound may.given env heads n small all g comes)))
 
   -- ---- the nodes
 
@@ -193,12 +206,12 @@ module _ (k : Setting) where
     injects = λ x s bytes there rule. client-rule x s (inject_seen x.c bytes) (client_injects s.client bytes) there;
   }
 
-  first-law : IsLaw k Nothing HasOneFirst
+  first-law : IsLaw k IsPlaced HasOneFirst
   first-law = record {
     begins = λ c iss small. record { front = tt; nodes = λ n. tt; letters = tt };
-    moves = weaker k (λ x v. Keeps x v × IsFine x v) (λ x v. MayRestOn Nothing x → HasOneFirst x → HasOneFirst (grown x v)) (λ x v h may inv. h.0 (h.1 may.number may.sound).0 may inv) (both k Keeps IsFine rules (fine k));
+    moves = weaker k (λ x v. Keeps x v × IsFine x v) (λ x v. MayRestOn IsPlaced x → HasOneFirst x → HasOneFirst (grown x v)) (λ x v h may inv. h.0 (h.1 may.number may.sound).0 may inv) (both k Keeps IsFine rules (fine k));
   }
 
 -- In every state that events lead to.
 pub one-first : (config : Config) (files : List (List ℕ × List ℕ)) → OfEach config files HasOneFirst
-one-first config files = carried config files Nothing HasOneFirst (λ l. first-law (with_leaving (setting config files) l)) (λ m r q. tt)
+one-first config files = carried config files IsPlaced HasOneFirst (λ l. first-law (with_leaving (setting config files) l)) (each-placed config files)

@@ -157,6 +157,7 @@ module _ (c iss : ℕ) (small : iss < 2 ^ 32) where
     offers = λ n e count b h. offer-first d e count b h;
     tags = λ n e number nodes. other-first d e (body.Tag number nodes) (λ f. let no : kind.Tag ≡ kind.Offer = f in cc);
     acks = λ n e. other-first d e body.EndedAck (λ f. let no : kind.EndedAck ≡ kind.Offer = f in cc);
+    givens = λ n e. other-first d e body.Given (λ f. let no : kind.Given ≡ kind.Offer = f in cc);
   }
 
   pub forward-tells : (d : ℕ) (bytes : List ℕ) (n e : ℕ) → HasFirstOn c iss Front (Node n) (message d e (body.Forward bytes))

@@ -1,5 +1,5 @@
 -- The client rule as a fold, rule by rule.
-use Rattle.std.proofs.Common.{◌≡◌, ℕ, List, [], ◌∷◌, ◌++◌, map, true, false, Option, Some, None, refl, sym, ap, ◌∙◌, subst, append-nil}
+use Rattle.std.proofs.Common.{◌≡◌, ℕ, List, [], ◌∷◌, ◌++◌, map, true, false, Option, Some, None, refl, sym, ap, ◌∙◌, subst, append-nil, inl}
 use Rattle.std.proofs.lemmas.List.{map-append}
 use Rattle.std.proofs.lemmas.List.Sums.{fold-append}
 use Rattle.std.specs.List.{fold}
@@ -53,7 +53,7 @@ rows-inside x v own =
     Each-append P (v.said.notes ++ segments ++ v.said.gave ++ messages) timers
     (Each-append P (v.said.notes ++ segments ++ v.said.gave) messages
     (Each-append P (v.said.notes ++ segments) v.said.gave
-    (Each-append P v.said.notes segments (Each-weaker (NotedAt v.place x.c) P (λ r h. (note-still v.place x.c r h).0) v.said.notes own.notes) (sends-inside v.place v.said.segments))
+    (Each-append P v.said.notes segments (Each-weaker (NotedAt v.place x.c) P (λ r h. (note-still v.place x.c r (inl h)).0) v.said.notes own.notes) (sends-inside v.place v.said.segments))
     (Each-weaker (GaveAt v.place x.c) P (λ r h. (gave-still v.place x.c r h).0) v.said.gave own.gave))
     (sends-inside v.place v.said.messages))
     (Each-weaker IsStill P (λ r h. h.0) timers (timer_rows-still v.place x.c x.part v.part))

@@ -6,7 +6,7 @@ use Rattle.lard_base.specs.declared.event.Event.TheVariants as event
 use Rattle.lard_law_connections.proofs.BytesClientMoves.{was-between}
 use Rattle.lard_laws.specs.ClientsFirsts.{CountsTaken, HasOneFirst, StandsAsTold}
 use Rattle.lard_laws.specs.ClientsLaws.{ClientsTakeInOrder}
-use Rattle.lard_laws.proofs.ClientsAsides.{IsOfMachine, kind-machine, note-machine}
+use Rattle.lard_laws.proofs.ClientsAsides.{IsOfMachine, kind-machine}
 use Rattle.lard_laws.proofs.ClientsBegins.{one-first}
 use Rattle.lard_laws.proofs.ClientsCounts.{counts-taken, packet-known}
 use Rattle.lard_laws.proofs.ClientsWriters.{stand-as-told}
@@ -16,7 +16,7 @@ use Rattle.lard_law_view.proofs.Carried.{IsOn, carried-keep}
 use Rattle.lard_law_view.proofs.Fine.{IsFine, fine}
 use Rattle.lard_law_view.proofs.Guarded.{both}
 use Rattle.lard_law_view.proofs.Frames.{Owed, fronts-leave, nodes-leave}
-use Rattle.lard_law_view.proofs.Saying.{GaveAt, NamesAll, NotedAt, notes-all}
+use Rattle.lard_law_view.proofs.Saying.{GaveAt, NamesAll, NamesNobody, NotedAt, NotedIn, in-kind, notes-all}
 use Rattle.lard_history.proofs.Each.{Each, Each-weaker, each_append}
 use Rattle.lard_journal.specs.declared.rec.Rec.TheVariants as rec
 use Rattle.lard_law_view.proofs.DeliveredPackets.{all-may, notes-may}
@@ -32,8 +32,15 @@ machine-nothing (rec.Accepted c bytes) h = let no = h.1 in absurd cc
 machine-nothing (rec.Eof c) h = let no = h.1 in absurd cc
 machine-nothing _ h = tt
 
-notes-nothing : (place : Place) (c : ℕ) (rs : List Rec) → IsMachine place → Each (NotedAt place c) rs → Each TakesNothing rs
-notes-nothing place c rs m e = Each-weaker (NotedAt place c) TakesNothing (λ r h. machine-nothing r (note-machine place c r m h)) rs e
+notes-nothing : (place : Place) (c : ℕ) (rs : List Rec) → IsMachine place → Each (NotedIn place c) rs → Each TakesNothing rs
+notes-nothing place c rs m e = Each-weaker (NotedIn place c) TakesNothing (λ r h. machine-nothing r (kind-machine place r m (in-kind place c r h))) rs e
+
+-- a client notes nothing that names nobody
+client-noted : (place : Place) (c d : ℕ) (rs : List Rec) → place ≡ Client d → Each (NotedIn place c) rs → Each (NotedAt place c) rs
+client-noted place c d rs is h = Each-weaker (NotedIn place c) (NotedAt place c)
+    (λ r k. ⊎_elim (λ (n : NotedAt place c r). n) (λ (n : NamesNobody place r). absurd (nobody r (subst (λ (p : Place). NamesNobody p r) is n))) k) rs h where
+      nobody : (r : Rec) → NamesNobody (Client d) r → ⊥
+      nobody _ h = h
 
 gaves-nothing : (place : Place) (c : ℕ) (rs : List Rec) → Each (GaveAt place c) rs → Each TakesNothing rs
 gaves-nothing = outer-gifts TakesNothing outer-nothing
@@ -113,7 +120,8 @@ module _ (m : Machine) (view : IsViewed m) (known : (q : ℕ) → IsKnown (conn 
       (λ (machine : IsMachine move.place). all-may (m.journal ++ begun) noted (notes-nothing move.place c noted machine a.notes))
       (λ (t : (move.place ≡ Client c) × TakesOf c (tale_at (conn m c)) move.heads move.said.notes).
       let names : NamesAll move.place = subst NamesAll (sym t.0) tt in
-      let same : noted ≡ move.said.notes = rows-same noted move.said.notes (sym (notes-all move.place c [] noted names a.notes) ∙ a.seen []) in
+      let same : noted ≡ move.said.notes =
+      rows-same noted move.said.notes (sym (notes-all move.place c [] noted names (client-noted move.place c c noted t.0 a.notes)) ∙ a.seen []) in
       subst (EachMay MayTake (m.journal ++ begun)) (sym same) (notes-may m.journal m.net view.told (m.events + 1) e c move.heads move.said.notes a.came t.1))
       (a.does.0 a.number (view.sound c) (known c))
 

@@ -1,15 +1,17 @@
 -- What the front end keeps of an end is so: its own turns end truly, and what a node tells it was so.
-use Rattle.std.proofs.Common.{◌≡◌, ◌⊎◌, ◌≤◌, not, ◌^◌, ℕ, true, false, List, [], map, Option, inl, inr, ⊎_elim, refl, sym, ◌∙◌, subst}
+use Rattle.std.proofs.Common.{◌≡◌, ◌⊎◌, ◌≤◌, not, ◌^◌, ℕ, true, false, List, [], map, Option, Some, None, inl, inr, ⊎_elim, refl, sym, ◌∙◌, subst}
 use Rattle.std.proofs.lemmas.Bool.{and_parts, both_ways, not-true}
-use Rattle.lard_law_view.specs.Prelude.{Conn, ControlBlock, Ending, Final, Front, FrontConn, FrontDeed, FrontEnv, FrontGets, FrontPart, FrontRow, HasStopped, IsStream, IsWord, MayMove, Node, Place, Said, Seen, Service, Station, Talk, Verdict, after_timer, front_does, front_fired, front_reads, front_rest, front_rule, letter, may_freeze, serving_settled, spoken, stage_after}
+use Rattle.lard_law_view.specs.Prelude.{Conn, ControlBlock, EndpointParts, Ending, Final, Front, FrontConn, FrontDeed, FrontEnv, FrontGets, FrontPart, FrontRow, HasStopped, IsConnNumber, IsStream, IsWord, MayMove, Node, Place, Said, Seen, Service, Station, Talk, Verdict, after_timer, back_notes, front_does, front_fired, front_reads, front_rest, front_rule, given_sent, letter, may_freeze, parts_of, serving_settled, spoken, stage_after}
 use Rattle.lard_law_connections.specs.BytesAgreement.{FrontHolds, IsOpen, SeatAgrees, StageAgrees}
 use Rattle.lard_law_connections.proofs.BytesFrontReading.{reads-so}
-use Rattle.lard_law_connections.proofs.BytesHolding.{heard-so}
-use Rattle.lard_law_connections.proofs.BytesServing.{So}
+use Rattle.lard_law_connections.proofs.BytesHolding.{adopted-serves, adopted-so, heard-so}
+use Rattle.lard_law_connections.proofs.BytesServing.{So, counts-mute, counts-nothing}
+use Rattle.lard_laws.proofs.AcksOffers.{IsOfferOf, refused-is}
 use Rattle.lard_laws.specs.EndedEnds.{IsTrueEnd, LetterEnds, RowEnds, StageEnds, TellsEnds}
 use Rattle.lard_laws.proofs.EndedEnding.{EndsTruly, ReadsNothing, open-ends, settled-end, timed-end}
 use Rattle.lard_laws.proofs.EndedGrowing.{front-letters}
 use Rattle.lard_laws.proofs.EndedTurns.{PlaceEnds}
+use Rattle.lard_law_connections.proofs.PlacesFrontMessages.{no-give}
 use Rattle.lard_law_connections.proofs.PlacesTurns.{IsPlaced}
 use Rattle.lard_law_connections.specs.Stops.{FrontStageStops, FrontStops, HeldStops, IsHeldBack}
 use Rattle.lard_law_connections.proofs.StopsFronts as stops
@@ -22,9 +24,9 @@ use Rattle.lard_history.proofs.Each.{Each-append}
 use Rattle.lard_rules.specs.declared.places.Ending.TheVariants as ending
 use Rattle.lard_law_view.proofs.Speaking.{speaks-stream}
 use Rattle.lard_law_connections.proofs.PlacesFrontRules.{has-each}
-use Rattle.lard_law_view.proofs.EachFront.{FrontComes, admission}
+use Rattle.lard_law_view.proofs.EachFront.{FrontComes, HasBack, admission}
 use Rattle.lard_laws.proofs.FrontComing.{heard-word, new-end}
-use Rattle.lard_rules.proofs.FrontCases.{IsInStage, KeptByFront, KeptBySegment, begun_service, fired_before, fired_service, front-keeps, heard_reading, heard_service, of-stage, waiting_service}
+use Rattle.lard_rules.proofs.FrontCases.{IsBack, IsInStage, KeptByFront, KeptByReturn, KeptBySegment, back_reading, back_service, begun_service, fired_before, fired_service, front-keeps, heard_reading, heard_service, of-stage, waiting_service}
 
 -- one that may move has not closed its side
 frozen-open : (b : ControlBlock) → may_freeze b ≡ true → b.send.finished ≡ false
@@ -51,7 +53,8 @@ module _ (P : Final → Type 0) (x : Conn) (h : TellsEnds P x) (heads : List See
 
 -- ---- the rules
 
-module _ (env : FrontEnv) (most : env.serve.stream ≤ 2 ^ 30) (x : Conn) (at_place : IsPlaced x) (s : Station) (l : Talk) (pend : List Verdict) (o : IsOpen env.serve.files x l pend s) (stopped : FrontStops env.serve.files x.part.front.row)
+module _ (env : FrontEnv) (most : env.serve.stream ≤ 2 ^ 30) (x : Conn) (number : IsConnNumber x.c) (at_place : IsPlaced x) (s : Station) (l : Talk)
+    (pend : List Verdict) (o : IsOpen env.serve.files x l pend s) (stopped : FrontStops env.serve.files x.part.front.row)
     (told : TellsEnds (IsTrueEnd env.serve.files l.w s.iss) x) (heads : List Seen) where
   abbrev P : Final → Type 0
   P = IsTrueEnd env.serve.files l.w s.iss
@@ -98,6 +101,10 @@ module _ (env : FrontEnv) (most : env.serve.stream ≤ 2 ^ 30) (x : Conn) (at_pl
   abbrev Came : Service → Option (List ℕ) → Type 0
   Came w t = So env.serve l.w l.out l.vs w [] × stops.Rests env.serve (record { service = w; target = t }) × MayMove w.block t
 
+  held-settled : (w : Service) → Came w None → StageEnds P (stage_after stage.Held (serving_settled env.serve w).0)
+  held-settled w came = held-stage (serving_settled env.serve w).0
+      (settled-end env.serve l.w s.iss l.out l.vs o.begins w [] came.0 (λ over calm. reads-nothing w.block (came.1 refl over calm)))
+
   module _ (sd : Said) (word : IsWord l.w sd) where
     reads-so-far : (row : FrontRow) (b : ControlBlock) → IsInStage q row (stage.Held b) → Came (front_reads env.serve (heard_reading q b sd)).service (front_reads env.serve (heard_reading q b sd)).target
     reads-so-far row b at =
@@ -114,13 +121,46 @@ module _ (env : FrontEnv) (most : env.serve.stream ≤ 2 ^ 30) (x : Conn) (at_pl
       drops = tt;
       begins = λ none plain. held-stage (spoken env.serve (begun_service env sd) []).0 (open-turn (begun_service env sd) [] refl);
       reads = reads-so-far;
-      holds = λ row b w at came. held-stage (serving_settled env.serve w).0 (settled-end env.serve l.w s.iss l.out l.vs o.begins w [] came.0 (λ over calm. reads-nothing w.block (came.1 refl over calm)));
+      holds = λ row b w at came. held-settled w came;
       hands = λ row b w path choice at came is. tt;
       waits = λ row b w path at came is. waiting-stage (spoken env.serve (waiting_service env w) []).0 (open-turn (waiting_service env w) [] (frozen-open w.block came.2));
       stays = λ row b at. waiting-stage (spoken env.serve (heard_service q b sd) []).0 (open-turn (heard_service q b sd) [] (segment-closes b sd ∙ frozen-open b (agrees-at row (stage.Waiting b) at).1));
       forwards = λ row n e at. tt;
       words = λ row last at. tt;
     }
+
+  -- ---- a connection that comes back
+
+  -- a node refused it: what it goes on from is the endpoint that was frozen
+  module _ (n epoch : ℕ) (m : HasBack x n epoch None heads) (row : FrontRow) (parts : EndpointParts) (back : IsBack q n epoch None row parts) where
+    reads-back : Came (front_reads env.serve (back_reading env row parts)).service (front_reads env.serve (back_reading env row parts)).target
+    reads-back =
+        let frozen : IsOfferOf l pend parts = refused-is env.serve.files x number at_place s l pend o n epoch heads m row parts back in
+        let held = frozen.holds in
+        let start : Service = back_service env row (parts_of frozen.block frozen.count) in
+        let notes = counts-mute env.serve.files env.serve.c l.w l.out l.vs l.vs l.out.bytes [] (back_notes env.serve.c row)
+        (counts-nothing env.serve.files env.serve.c l.w l.out l.vs) (tt, (tt, tt)) refl refl refl in
+        let so = reads-so env.serve l.w l.out l.vs most start
+        (adopted-so env.serve l.w l.out l.vs o.says [] frozen.block frozen.count held.holds frozen.frozen (back_notes env.serve.c row) notes) in
+        let rests : stops.Rests env.serve (front_reads env.serve (back_reading env row (parts_of frozen.block frozen.count))) =
+        stops.reads-rest env.serve start (λ over closed. absurd (both_ways false refl closed)) in
+        let may = reads-stop env.serve start (adopted-serves env.serve l.w l.out l.vs o.says [] frozen.block frozen.count held.holds frozen.frozen held.serves) in
+        subst (λ (p : EndpointParts). Came (front_reads env.serve (back_reading env row p)).service (front_reads env.serve (back_reading env row p)).target) (sym frozen.same)
+        (so.0, rests, may.1)
+
+    by-return : KeptByReturn env q [] row parts Came Goes
+    by-return = record {
+      reads = reads-back;
+      holds = λ w came. held-settled w came;
+      hands = λ w path choice came is. tt;
+      waits = λ w path came is. waiting-stage (spoken env.serve (waiting_service env w) []).0 (open-turn (waiting_service env w) [] (frozen-open w.block came.2));
+    }
+
+  returns-end : (n epoch : ℕ) (given : Option EndpointParts) → HasBack x n epoch given heads → (row : FrontRow) (parts : EndpointParts)
+      → IsBack q n epoch given row parts
+      → KeptByReturn env q (given_sent env.serve.c n epoch given) row parts Came Goes
+  returns-end n epoch None m row parts back = by-return n epoch m row parts back
+  returns-end n epoch (Some found) m row parts back = absurd (no-give x at_place n epoch found m.bytes m.was m.spells)
 
   -- ---- whatever comes
 
@@ -145,6 +185,8 @@ module _ (env : FrontEnv) (most : env.serve.stream ≤ 2 ^ 30) (x : Conn) (at_pl
     assigns_next = λ n epoch ask m rest found there next. told.front;
     ends_again = λ n epoch last m row found away again. tt;
     ends = λ n epoch last m. new-end (P last) x at_place epoch ((has-each (LetterEnds P q.row) (record { from = Node n; to = Front; bytes = m.told.bytes }) x.letters m.told.was told.packets) _ m.told.spells);
+    gives_again = λ n epoch parts m row found past. tt;
+    returns = λ n epoch given m row parts back. returns-end n epoch given m row parts back;
     admits = λ choice made met row b path at target. tt;
   }
 

@@ -73,7 +73,7 @@ module _ (k : Setting) (small : k.stream ≤ 2 ^ 30) where
       place-rule x v (ap (told_by x) (front-heads x heads d) ∙ of-front x (λ (ss : List Seen). told_by x ss ≡ (tale_at x).wrote) (λ from bytes. refl) refl refl env heads g comes) (front-station x heads d)
       (λ help. notes-unwritten v.place x.c v.said.notes (front-machine x heads d) help.own.notes)
       (λ help. by-files x v env.serve.files is.files (λ t at h o stops told.
-      fronts_of.rule-ends env (subst (λ (m : ℕ). m ≤ 2 ^ 30) (sym is.stream) small) x help.placed t h.talk h.pend o stops.0 told heads g comes)))
+      fronts_of.rule-ends env (subst (λ (m : ℕ). m ≤ 2 ^ 30) (sym is.stream) small) x help.number help.placed t h.talk h.pend o stops.0 told heads g comes)))
 
   -- ---- the nodes
 

@@ -1,7 +1,7 @@
 -- What the front end does: what it assigns names a file, as does the path that a connection waits for, and each segment has a byte.
 use Rattle.std.proofs.Common.{◌≡◌, ℕ, ◌+◌, Bool, true, false, List, [], ◌∷◌, length, Option, Some, None, IfSome, sym, subst}
 use Rattle.std.proofs.lemmas.Bool.{cond_both}
-use Rattle.lard_law_view.specs.Prelude.{Ask, AskedBy, ControlBlock, Done, Ending, FilesAt, Found, FrontDeed, FrontEnv, FrontGets, FrontPart, FrontRest, FrontRow, FrontTurn, LaterChoice, More, Place, Reading, Rec, Said, Service, Step, Turn, Verdict, Via, after_timer, answer, answer_code, answered, assigned_notes, block_at, cut_of, ended_at_fin, front_reads, front_rest, front_rule, good_path, last_words, may_freeze, may_read, over_note, reading_turn, reads_block, reads_found, rest_after, serving_consumed, serving_settled, spoken, targeted, timed, tombstone}
+use Rattle.lard_law_view.specs.Prelude.{Ask, AskedBy, ControlBlock, Done, Ending, EndpointParts, FilesAt, Found, FrontDeed, FrontEnv, FrontGets, FrontPart, FrontRest, FrontRow, FrontTurn, LaterChoice, More, Place, Reading, Rec, Said, Service, Step, Turn, Verdict, Via, after_timer, answer, answer_code, answered, assigned_notes, back_rest, block_at, cut_of, ended_at_fin, front_reads, front_rest, front_rule, given_sent, good_path, last_words, may_freeze, may_read, over_note, reading_turn, reads_block, reads_found, rest_after, serving_consumed, serving_settled, spoken, targeted, timed, tombstone}
 use Rattle.lard_base.specs.declared.place.Via.TheVariants.{Own}
 use Rattle.lard_block.specs.declared.block.Found.TheVariants as found
 use Rattle.lard_history.proofs.Each.{Each, Each-append}
@@ -13,7 +13,7 @@ use Rattle.lard_laws.specs.Formed.{IsOfFile}
 use Rattle.lard_request.specs.declared.verdict.Code.TheVariants as code
 use Rattle.lard_request.specs.declared.verdict.Verdict.TheVariants.{Fault}
 use Rattle.lard_rules.proofs.Endings.{answered-keeps, at-fin-keeps, settled-keeps}
-use Rattle.lard_rules.proofs.FrontCases.{IsAsGiven, KeptByFront, KeptBySegment, KeptByTimer, begun_service, fired_before, fired_service, front-keeps, heard_reading, heard_service, waiting_service}
+use Rattle.lard_rules.proofs.FrontCases.{IsAsGiven, KeptByFront, KeptByReturn, KeptBySegment, KeptByTimer, back_reading, begun_service, fired_before, fired_service, front-keeps, heard_reading, heard_service, waiting_service}
 use Rattle.lard_rules.proofs.Runs.{runs_keep}
 use Rattle.lard_rules.specs.Front.{Does, Drops, Says}
 use Rattle.lard_rules.specs.FrontReading as front
@@ -160,6 +160,17 @@ module _ (files : FilesAt) where
       by_timer : KeptByTimer env p DeedFits
       by_timer = record { drops = tt; holds = λ row b at. fired-fits row b; stays = λ row b at. fired-fits row b; resends = λ row n e at. (tt, tt) }
 
+      -- it comes back, and waits for no path until it reads on to one
+      by_return : (said : List (Place × List ℕ)) (row : FrontRow) (parts : EndpointParts) → KeptByReturn env p said row parts R DeedFits
+      by_return said row parts = record {
+        reads = all-read (back_reading env row parts) ((tt, (tt, tt)), tt);
+        holds = λ w r. (after-named (back_rest parts) (serving_settled env.serve w).0 tt, settled-turns w r.0);
+        hands = λ w path choice r is. (tt, (Each-append (IsToldSo files) w.notes _ r.0 (tt, (r.1, tt)), tt));
+        waits = λ w path r is.
+            let k : Service = waiting_service env w in
+            (after-named (record (back_rest parts) { target = Some path }) (spoken env.serve k []).0 r.1, spoken-turns k [] tt (Each-append (IsToldSo files) w.notes _ r.0 (tt, tt)));
+      }
+
       by_front : KeptByFront env p ComesNamed R DeedFits
       by_front = record {
         drops = tt;
@@ -177,6 +188,8 @@ module _ (files : FilesAt) where
         );
         ends_again = λ n epoch last m row found none told. (tt, tt);
         ends = λ n epoch last m row found away. (tt, ((tt, (tt, tt)), tt));
+        gives_again = λ n epoch parts m row found past. (tt, tt);
+        returns = λ n epoch given m row parts at. by_return (given_sent c n epoch given) row parts;
         admits = λ choice made met row b path at is. (tt, ((tt, (subst IsTarget is target, tt)), tt));
       }
 

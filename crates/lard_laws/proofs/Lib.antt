@@ -1,5 +1,6 @@
 pub mod ClientComing
 pub mod FrontComing
+pub mod FrontReturning
 pub mod NodeHere
 pub mod NodeStays
 pub mod AsksPicking
@@ -196,3 +197,4 @@ pub mod FormedMoves
 pub mod FormedNamed
 pub mod FormedStores
 pub mod FormedRuns
+pub mod RunsHear

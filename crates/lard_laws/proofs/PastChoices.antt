@@ -1,11 +1,10 @@
 -- A first assignment is to a node that was not closed: all that serve a path are open, and so is the least loaded node.
-use Rattle.std.proofs.Common.{◌≡◌, ℕ, ◌-◌, ◌<◌, ◌≤◌, not, nat_eq, Bool, true, false, cond, List, [], ◌∷◌, ◌++◌, length, is_some, unwrap_or, Option, Some, None, IfSome, Ok, refl, sym, ap, ◌∙◌, subst, arith, append_assoc}
-use Rattle.std.proofs.lemmas.Bool.{and_parts, cond_both}
+use Rattle.std.proofs.Common.{◌≡◌, ℕ, ◌-◌, ◌≤◌, not, nat_eq, Bool, true, false, cond, List, [], ◌∷◌, ◌++◌, Option, Some, None, IfSome, Ok, refl, sym, ap, ◌∙◌, subst, arith, append_assoc}
 use Rattle.std.proofs.lemmas.Bool.Decides.{nat_tests}
 use Rattle.std.proofs.lemmas.List.Sums.{fold-append}
 use Rattle.std.specs.List.{list_any}
 use Rattle.std.specs.Str.{bytes_eq}
-use Rattle.lard_law_view.specs.Prelude.{Config, EachMay, FirstChoice, IsNode, IsReached, LaterChoice, Machine, Millis, Rec, Tally, config_check, first_choice, has, home, is_node_closed, is_open, later_choice, node_closed_step, numbers}
+use Rattle.lard_law_view.specs.Prelude.{Config, EachMay, FirstChoice, IsNode, IsReached, LaterChoice, Machine, Rec, config_check, first_choice, has, home, is_node_closed, is_open, later_choice, node_closed_step, numbers}
 use Rattle.lard_counts.specs.Ledger.{Ledger, ledger, server_set}
 use Rattle.lard_dispatch.proofs.Soundness.{home-node}
 use Rattle.lard_laws.specs.PastLaws.{AssignsOpen, FirstsAreOpen}
@@ -13,46 +12,9 @@ use Rattle.lard_law_connections.proofs.PolicyCounted.{assigns-as-stated, past-ha
 use Rattle.lard_law_connections.proofs.PolicyStanding.{HasNodes, equal-turned, told-open}
 use Rattle.lard_law_connections.specs.PolicyLaws.{MayAssign}
 use Rattle.lard_law_connections.specs.PolicyServers.{serves, serves_step, taken_in, taken_out}
-use Rattle.lard_loads.proofs.Firsts.{IsIn, any-filter, first-is_in, first_passes, from_filter, has_first, in_range}
-use Rattle.lard_loads.specs.Order.{is_before}
-use Rattle.lard_loads.specs.Tally.{least, least_of, load}
+use Rattle.lard_loads.proofs.Firsts.{IsIn, any-filter, from_filter, in_range}
 use Rattle.lard_journal.specs.declared.rec.Rec.TheVariants as rec
-use Rattle.lard_policy.specs.First.{chosen, is_overloaded, least_node, relieved}
-
--- ---- a first choice
-
-module _ (P : ℕ → Type 0) (t : Tally) where
-  -- some open node is the least loaded
-  least-is : 0 < length t.open_nodes → ((n : ℕ) → IsIn n t.open_nodes → P n) → P (least_node t)
-  least-is some all = go (least t) refl (has_first (is_before (load t)) t.open_nodes some) where
-    go : (o : Option ℕ) → least t ≡ o → is_some o ≡ true → P (unwrap_or o 0)
-    go None e h = let no : false ≡ true = h in absurd cc
-    go (Some n) e h = all n (first-is_in (is_before (load t)) t.open_nodes n e)
-
-  -- it goes to a node of which this is so, and so it is of the node that joins
-  abbrev Chooses : FirstChoice → Type 0
-  Chooses choice = P choice.node × IfSome choice.add P
-
-  chosen-is : (cfg : Config) (set unchanged : ℕ) → P (least_node t) → (o : Option ℕ) → IfSome o P → Chooses (chosen t cfg set unchanged o)
-  chosen-is cfg set unchanged low None h = (low, low)
-  chosen-is cfg set unchanged low (Some n) h =
-      let p : P (relieved t cfg n) = cond_both (is_overloaded t cfg n) (least_node t) n P (λ e. low) (λ e. h) in
-      (p, cond_both (has set (relieved t cfg n)) None (Some (relieved t cfg n)) (λ (o : Option ℕ). IfSome o P) (λ e. tt) (λ e. p))
-
-  first-is : (cfg : Config) (set : ℕ) (now last : Millis) → 0 < length t.open_nodes → ((n : ℕ) → IsIn n t.open_nodes → P n)
-      → ((n : ℕ) → 1 ≤ n → has set n ≡ true → P n)
-      → Chooses (first_choice t set now last cfg)
-  unfolding first_choice
-  first-is cfg set now last some all members = chosen-is cfg set (now.0 - last.0) (least-is some all) (least_of t set) (go (least_of t set) refl) where
-    go : (o : Option ℕ) → least_of t set ≡ o → IfSome o P
-    go None e = tt
-    go (Some n) e = let n_is = first_passes (is_before (load t)) (has set) t.nodes n e in members n n_is.0 n_is.2
-
--- a later one takes in the connection's node alone, where that is open
-later-is : (P : ℕ → Type 0) (t : Tally) (h set queue : ℕ) (cfg : Config) → (is_open t h ≡ true → P h) → IfSome (later_choice t h set queue cfg).add P
-unfolding later_choice
-later-is P t h set queue cfg open_ = cond_both _ (Some h) None (λ (o : Option ℕ). IfSome o P)
-    (λ e. let parts = and_parts _ (not (has set h)) e in open_ (and_parts _ (is_open t h) parts.0).1) (λ e. tt)
+use Rattle.lard_rules.proofs.FrontOpen.{Chooses, first-is, later-is}
 
 -- ---- a journal
 

@@ -1,5 +1,5 @@
 -- A node that decided a connection is closed once that is elsewhere, and a hand-off goes to an open node: so it goes to one that is new to it.
-use Rattle.std.proofs.Common.{◌≡◌, ◌⊎◌, ℕ, not, nat_eq, Bool, true, false, List, [], ◌∷◌, ◌++◌, map, Option, Some, None, Ok, refl, sym, ap, ◌∙◌, subst, inl, inr, ⊎_elim}
+use Rattle.std.proofs.Common.{◌≡◌, ◌⊎◌, ℕ, not, nat_eq, Bool, true, false, List, [], ◌∷◌, ◌++◌, map, Option, Some, None, Ok, refl, sym, ap, ◌∙◌, subst, arith, inl, inr, ⊎_elim}
 use Rattle.std.proofs.lemmas.Bool.{cases_eq, cond_both}
 use Rattle.std.proofs.lemmas.List.Sums.{fold-append}
 use Rattle.std.specs.List.{filter, fold, list_any}
@@ -7,8 +7,9 @@ use Rattle.lard_law_view.specs.Prelude.{BackRow, Came, Config, Conn, EachMay, Ev
 use Rattle.lard_laws.specs.Past.{AtFront, AtNode, ClosesBehind, DecidedIn, GoesToNew, HasDecided, IsAtOrOver, IsNewTo, NewAt, Over, Whereabouts, whereabouts, whereabouts_of}
 use Rattle.lard_laws.specs.PastLaws.{AssignsOpen, ConnectionsGoToNew, PastIsClosed}
 use Rattle.lard_laws.proofs.PastChoices.{firsts-are-open}
-use Rattle.lard_laws.proofs.PastMoves.{Closes, Ends, Forgets, FrontGoes, Goes, Hands, InFront, InNode, IsAssigned, IsThere, NodeGoes, Stays, going}
+use Rattle.lard_laws.proofs.PastMoves.{Closes, Ends, Forgets, FromHere, FrontGoes, Goes, GoesOn, Hands, InFront, InNode, IsAssigned, IsThere, NodeGoes, Returns, Stays, StaysHere, going}
 use Rattle.lard_laws.proofs.WaysEarlier.{noted-row}
+use Rattle.lard_law_connections.specs.Places.{IsPast}
 use Rattle.lard_law_connections.proofs.LineBounds.{may-behind}
 use Rattle.lard_law_connections.proofs.PlacesRuns.{each-placed}
 use Rattle.lard_law_connections.proofs.PlacesTurns.{IsPlaced}
@@ -121,21 +122,43 @@ module _ (J K : List Rec) (more : (n : ℕ) → IsClosed J n → IsClosed K n) (
   front-closed : whereabouts_of x ≡ AtFront → (n : ℕ) → HasDecided (nodes n).row → IsClosed J n
   front-closed here n decided = ⊎_elim (λ at. absurd (subst (IsAtOrOver n) here at)) (λ closed. closed) (h.closes n decided)
 
+  -- and where it comes back from a node that did not take it, which knows nothing of it
+  back-closed : (m e : ℕ) → whereabouts_of x ≡ AtNode m e → IsPast e (nodes m).row → (n : ℕ) → HasDecided (nodes n).row → IsClosed J n
+  back-closed m e is past n decided = ⊎_elim
+      (λ at. absurd (none (nodes n).row (subst (λ (i : ℕ). IsPast e (nodes i).row) (mine at) past)
+          (subst (λ (i : ℕ). IsNewTo e (nodes i).row) (mine at) (subst (NewAt nodes) is h.new)) decided))
+      (λ closed. closed) (h.closes n decided) where
+        mine : IsAtOrOver n (whereabouts_of x) → m ≡ n
+        mine at = subst (IsAtOrOver n) is at
+
+        none : (o : Option BackRow) → IsPast e o → IsNewTo e o → HasDecided o → ⊥
+        none None past new decided = decided
+        none (Some row) past new decided = let less = past.0 in omega (arith, less, new)
+
   -- ---- the front end moves it
 
   module _ (ns : List Rec) (opens : (n : ℕ) → IsAssigned x.c n ns → IsClosed J n → ⊥) where
-    front-closes : (q : Whereabouts) → FrontGoes x.c (whereabouts_of x) q ns → (n : ℕ) → HasDecided (nodes n).row → IsAtOrOver n q ⊎ IsClosed K n
-    front-closes q (Stays is) n decided = ⊎_elim (λ at. inl (subst (IsAtOrOver n) (sym is) at)) (λ closed. inr (more n closed)) (h.closes n decided)
-    front-closes q (Hands m e here is assigned) n decided = inr (more n (front-closed here n decided))
-    front-closes q (Closes by here is) n decided = inl (subst (IsAtOrOver n) (sym is) tt)
-    front-closes q (Ends m e at is) n decided = inl (subst (IsAtOrOver n) (sym is) tt)
+    module _ (all : (n : ℕ) → HasDecided (nodes n).row → IsClosed J n) where
+      on-closes : (q : Whereabouts) → GoesOn x.c q ns → (n : ℕ) → HasDecided (nodes n).row → IsAtOrOver n q ⊎ IsClosed K n
+      on-closes q (Closes by is) n decided = inl (subst (IsAtOrOver n) (sym is) tt)
+      on-closes q _ n decided = inr (more n (all n decided))
 
-    front-new : (q : Whereabouts) → FrontGoes x.c (whereabouts_of x) q ns → NewAt nodes q
+      on-new : (q : Whereabouts) → GoesOn x.c q ns → NewAt nodes q
+      on-new q (StaysHere is) = subst (NewAt nodes) (sym is) tt
+      on-new q (Hands n e is assigned) = subst (NewAt nodes) (sym is) (undecided-new e (nodes n).row (λ decided. opens n assigned (all n decided)))
+      on-new q (Closes by is) = subst (NewAt nodes) (sym is) tt
+
+    front-closes : (q : Whereabouts) → FrontGoes x.c nodes (whereabouts_of x) q ns → (n : ℕ) → HasDecided (nodes n).row → IsAtOrOver n q ⊎ IsClosed K n
+    front-closes q (Stays is) n decided = ⊎_elim (λ at. inl (subst (IsAtOrOver n) (sym is) at)) (λ closed. inr (more n closed)) (h.closes n decided)
+    front-closes q (FromHere here goes) n decided = on-closes (front-closed here) q goes n decided
+    front-closes q (Ends m e at is) n decided = inl (subst (IsAtOrOver n) (sym is) tt)
+    front-closes q (Returns m e at past goes) n decided = on-closes (back-closed m e at past) q goes n decided
+
+    front-new : (q : Whereabouts) → FrontGoes x.c nodes (whereabouts_of x) q ns → NewAt nodes q
     front-new q (Stays is) = subst (NewAt nodes) (sym is) h.new
-    front-new q (Hands n e here is assigned) = subst (NewAt nodes) (sym is)
-        (undecided-new e (nodes n).row (λ decided. opens n assigned (front-closed here n decided)))
-    front-new q (Closes by here is) = subst (NewAt nodes) (sym is) tt
+    front-new q (FromHere here goes) = on-new (front-closed here) q goes
     front-new q (Ends m e at is) = subst (NewAt nodes) (sym is) tt
+    front-new q (Returns m e at past goes) = on-new (back-closed m e at past) q goes
 
   -- ---- a node does
 

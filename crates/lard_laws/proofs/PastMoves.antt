@@ -1,22 +1,23 @@
 -- What each rule does to where a connection is, and to what a node decided.
 use Rattle.std.proofs.Common.{◌≡◌, ◌⊎◌, ℕ, ◌+◌, true, false, List, [], ◌∷◌, ◌++◌, Option, Some, None, refl, sym, ap, ◌∙◌, subst, inl, inr, ⊎_elim, eqb-true}
-use Rattle.lard_law_view.specs.Prelude.{BackRow, ClientRules, Conn, ControlBlock, Ending, EndpointParts, Epoch, FirstChoice, Front, FrontConn, FrontDeed, FrontEnv, FrontGets, FrontPart, FrontRest, FrontRow, FrontRules, Has, MayRestOn, Move, Node, NodeDeed, NodeEnv, NodeGets, NodePart, NodeRules, Rec, Rules, Said, Seen, Setting, Stay, Turn, Work, after_timer, came_for, come_progress, front_does, front_fired, front_rest, front_rests, front_rule, goes_on, gone, is_away, kept_after, next_epoch, node_begins, node_does, node_put_back, node_rule, offer_answer, on_segment, read_progress, reads_batch, serving, serving_ready_of, serving_settled, spoken, state_of, tagged, taken_sent, timed, with_work, without, work_of}
+use Rattle.lard_law_view.specs.Prelude.{BackRow, ClientRules, Conn, ControlBlock, Ending, EndpointParts, Epoch, FirstChoice, Front, FrontConn, FrontDeed, FrontEnv, FrontGets, FrontPart, FrontRest, FrontRow, FrontRules, Has, MayRestOn, Move, NodeDeed, NodeEnv, NodeGets, NodePart, NodeRules, Place, Rec, ReturnedBy, Rules, Said, Seen, Setting, Stay, Turn, Work, after_timer, back_part, back_rest, came_for, come_progress, front_does, front_fired, front_rest, front_rests, front_rule, given_sent, goes_on, gone, is_away, kept_after, next_epoch, node_begins, node_does, node_put_back, node_rule, offer_answer, on_segment, read_progress, reads_batch, returned_row, serving, serving_ready_of, serving_settled, spoken, state_of, tagged, taken_sent, timed, with_work, without, work_of}
 use Rattle.lard_base.specs.declared.place.TimerKind.TheVariants as kind
 use Rattle.lard_laws.specs.Past.{AtFront, AtNode, DecidedIn, Over, Whereabouts, stage_whereabouts, whereabouts, whereabouts_of}
-use Rattle.lard_law_connections.proofs.PlacesFrontMessages.{came-says}
+use Rattle.lard_laws.proofs.FrontReturning.{refuses}
+use Rattle.lard_law_connections.proofs.PlacesFrontMessages.{offer-says}
 use Rattle.lard_law_connections.proofs.PlacesNodeRules.{not-decided}
 use Rattle.lard_law_connections.proofs.PlacesTurns.{IsPlaced}
 use Rattle.lard_law_connections.proofs.PlacesWithNode.{IsWithNode, with-node}
-use Rattle.lard_law_connections.specs.Places.{IsDecided, IsOffered, Offers}
+use Rattle.lard_law_connections.specs.Places.{IsDecided, IsOffered, IsPast, Offers}
 use Rattle.lard_law_view.proofs.EachClient.{each-client}
-use Rattle.lard_law_view.proofs.EachFront.{admission, each-front}
+use Rattle.lard_law_view.proofs.EachFront.{FrontComes, admission, each-front}
 use Rattle.lard_law_view.proofs.EachNode.{HasCome, NodeComes, each-node, node_goes}
 use Rattle.lard_handoff_back.specs.declared.table.Adopt.TheVariants.{New}
 use Rattle.lard_handoff_front.specs.declared.row.FrontConn.TheVariants as stage
 use Rattle.lard_history.proofs.Seeing.{has-behind}
 use Rattle.lard_journal.specs.declared.rec.Rec.TheVariants as rec
 use Rattle.lard_message.specs.declared.message.Body.TheVariants as body
-use Rattle.lard_rules.proofs.FrontCases.{IsAsGiven, IsInStage, KeptByFront, KeptBySegment, begun_row, begun_service, front-keeps, heard_service, waiting_service}
+use Rattle.lard_rules.proofs.FrontCases.{IsAsGiven, IsAwayWith, IsBack, IsInStage, KeptByFront, KeptByReturn, KeptBySegment, begun_row, begun_service, front-keeps, heard_service, waiting_service}
 use Rattle.lard_rules.proofs.NodeCases.{IsHereWith, IsInItsEpoch, KeptByNode, node-keeps}
 use Rattle.lard_rules.specs.Front.{Drops, Says, Does}
 use Rattle.lard_rules.specs.Node as node
@@ -32,51 +33,57 @@ pub record IsAssigned (c n : ℕ) (ns : List Rec) : Type 0 where
   pub remove : Option ℕ
   pub noted : Has (rec.AssignedFirst c r path n add remove) ns
 
--- Where a connection is stays so; or it is handed off to the node that is assigned; or it is closed at the front end, or by the end of its stay.
-pub data FrontGoes (c : ℕ) (o q : Whereabouts) (ns : List Rec) : Type 0 where
-  Stays : q ≡ o → FrontGoes c o q ns
-  Hands : (n e : ℕ) → o ≡ AtFront → q ≡ AtNode n e → IsAssigned c n ns → FrontGoes c o q ns
-  Closes : (by : Option Epoch) → o ≡ AtFront → q ≡ Over by → FrontGoes c o q ns
-  Ends : (n e : ℕ) → o ≡ AtNode n e → q ≡ Over (Some (record { 0 = e })) → FrontGoes c o q ns
+-- What the front end has stays here, is handed off to the node that is assigned, or is closed.
+pub data GoesOn (c : ℕ) (q : Whereabouts) (ns : List Rec) : Type 0 where
+  StaysHere : q ≡ AtFront → GoesOn c q ns
+  Hands : (n e : ℕ) → q ≡ AtNode n e → IsAssigned c n ns → GoesOn c q ns
+  Closes : (by : Option Epoch) → q ≡ Over by → GoesOn c q ns
+
+-- Where a connection is stays so; or it goes on from the front end; or it is closed by the end of its stay; or it comes back from a node that
+-- did not take it, and goes on from the front end.
+pub data FrontGoes (c : ℕ) (nodes : ℕ → NodePart) (o q : Whereabouts) (ns : List Rec) : Type 0 where
+  Stays : q ≡ o → FrontGoes c nodes o q ns
+  FromHere : o ≡ AtFront → GoesOn c q ns → FrontGoes c nodes o q ns
+  Ends : (n e : ℕ) → o ≡ AtNode n e → q ≡ Over (Some (record { 0 = e })) → FrontGoes c nodes o q ns
+  Returns : (n e : ℕ) → o ≡ AtNode n e → IsPast e (nodes n).row → GoesOn c q ns → FrontGoes c nodes o q ns
 
 -- of a row in this stage
 in-stage : (p : FrontPart) (row : FrontRow) (st : FrontConn) → IsInStage p row st → whereabouts p.row ≡ stage_whereabouts row.ended_by st
 in-stage p row st at = ap whereabouts at.0 ∙ ap (stage_whereabouts row.ended_by) at.1
 
-module _ (env : FrontEnv) (p : FrontPart) where
+module _ (env : FrontEnv) (p : FrontPart) (nodes : ℕ → NodePart) where
   abbrev c : ℕ
   c = env.serve.c
 
   abbrev pub DeedGoes : FrontDeed → Type 0
   DeedGoes Drops = Unit {0}
   DeedGoes (Says turn) = Unit {0}
-  DeedGoes (Does did) = FrontGoes c (whereabouts p.row) (whereabouts did.part.row) did.turn.notes
+  DeedGoes (Does did) = FrontGoes c nodes (whereabouts p.row) (whereabouts did.part.row) did.turn.notes
 
-  -- what the front end does with it, which notes this
-  abbrev Goes_to : Whereabouts → List Rec → Type 0
-  Goes_to q ns = FrontGoes c (whereabouts p.row) q ns
+  -- ---- what is here
 
-  -- what was here stays here, or is closed
-  held-goes : (row : FrontRow) (rest : FrontRest) (given : Ending × Turn) → whereabouts p.row ≡ AtFront → Goes_to (whereabouts (front_rests p row rest stage.Held given.0).row) given.1.notes
-  held-goes row rest given here = go given.0 where
-    go : (e : Ending) → Goes_to (whereabouts (front_rests p row rest stage.Held e).row) given.1.notes
-    go (ending.Here b count) = Stays (sym here)
-    go (ending.Over last) = Closes row.ended_by here refl
+  -- it stays here, or is closed
+  held-goes : (q : FrontPart) (row : FrontRow) (rest : FrontRest) (given : Ending × Turn)
+      → GoesOn c (whereabouts (front_rests q row rest stage.Held given.0).row) given.1.notes
+  held-goes q row rest given = go given.0 where
+    go : (e : Ending) → GoesOn c (whereabouts (front_rests q row rest stage.Held e).row) given.1.notes
+    go (ending.Here b count) = StaysHere refl
+    go (ending.Over last) = Closes row.ended_by refl
 
-  waits-goes : (row : FrontRow) (rest : FrontRest) (given : Ending × Turn) → whereabouts p.row ≡ AtFront
-      → Goes_to (whereabouts (front_rests p row rest stage.Waiting given.0).row) given.1.notes
-  waits-goes row rest given here = go given.0 where
-    go : (e : Ending) → Goes_to (whereabouts (front_rests p row rest stage.Waiting e).row) given.1.notes
-    go (ending.Here b count) = Stays (sym here)
-    go (ending.Over last) = Closes row.ended_by here refl
+  waits-goes : (q : FrontPart) (row : FrontRow) (rest : FrontRest) (given : Ending × Turn)
+      → GoesOn c (whereabouts (front_rests q row rest stage.Waiting given.0).row) given.1.notes
+  waits-goes q row rest given = go given.0 where
+    go : (e : Ending) → GoesOn c (whereabouts (front_rests q row rest stage.Waiting e).row) given.1.notes
+    go (ending.Here b count) = StaysHere refl
+    go (ending.Over last) = Closes row.ended_by refl
 
   -- it is handed off
   abbrev assigned_to : ℕ → List ℕ → FirstChoice → Rec
   assigned_to r path choice = rec.AssignedFirst c r path choice.node choice.add choice.remove
 
-  hands-goes : (row : FrontRow) (ns : List Rec) (r : ℕ) (path : List ℕ) (choice : FirstChoice) → whereabouts p.row ≡ AtFront
-      → Goes_to (AtNode choice.node (next_epoch row).0) (ns ++ rec.Admitted c ∷ assigned_to r path choice ∷ [])
-  hands-goes row ns r path choice here = Hands choice.node (next_epoch row).0 here refl (record {
+  hands-goes : (row : FrontRow) (ns : List Rec) (r : ℕ) (path : List ℕ) (choice : FirstChoice)
+      → GoesOn c (AtNode choice.node (next_epoch row).0) (ns ++ rec.Admitted c ∷ assigned_to r path choice ∷ [])
+  hands-goes row ns r path choice = Hands choice.node (next_epoch row).0 refl (record {
     r = r;
     path = path;
     add = choice.add;
@@ -87,36 +94,58 @@ module _ (env : FrontEnv) (p : FrontPart) where
   by-segment : (bytes : List ℕ) (s : Said) → KeptBySegment env p bytes s (λ w o. Unit {0}) DeedGoes
   by-segment bytes s = record {
     drops = tt;
-    begins = λ none plain. held-goes begun_row (front_rest None) (spoken env.serve (begun_service env s) []) (ap whereabouts none);
+    begins = λ none plain. FromHere (ap whereabouts none) (held-goes p begun_row (front_rest None) (spoken env.serve (begun_service env s) []));
     reads = λ row b at. tt;
-    holds = λ row b w at r. held-goes row (front_rest p.rest) (serving_settled env.serve w) (in-stage p row (stage.Held b) at);
-    hands = λ row b w path choice at r is. hands-goes row w.notes (w.count + 1) path choice (in-stage p row (stage.Held b) at);
-    waits = λ row b w path at r is. waits-goes row (record (front_rest p.rest) { target = Some path }) (spoken env.serve (waiting_service env w) [])
-        (in-stage p row (stage.Held b) at);
-    stays = λ row b at. waits-goes row (front_rest p.rest) (spoken env.serve (heard_service p b s) []) (in-stage p row (stage.Waiting b) at);
+    holds = λ row b w at r. FromHere (in-stage p row (stage.Held b) at) (held-goes p row (front_rest p.rest) (serving_settled env.serve w));
+    hands = λ row b w path choice at r is. FromHere (in-stage p row (stage.Held b) at) (hands-goes row w.notes (w.count + 1) path choice);
+    waits = λ row b w path at r is. FromHere (in-stage p row (stage.Held b) at)
+        (waits-goes p row (record (front_rest p.rest) { target = Some path }) (spoken env.serve (waiting_service env w) []));
+    stays = λ row b at. FromHere (in-stage p row (stage.Waiting b) at) (waits-goes p row (front_rest p.rest) (spoken env.serve (heard_service p b s) []));
     forwards = λ row n e at. tt;
     words = λ row last at. tt;
   }
 
   -- its stay ended
-  ends-goes : (epoch : ℕ) (row : FrontRow) (ns : List Rec) → p.row ≡ Some row → is_away epoch row.stage ≡ true → Goes_to (Over (Some (record { 0 = epoch }))) ns
+  ends-goes : (epoch : ℕ) (row : FrontRow) (ns : List Rec) → p.row ≡ Some row → is_away epoch row.stage ≡ true
+      → FrontGoes c nodes (whereabouts p.row) (Over (Some (record { 0 = epoch }))) ns
   ends-goes epoch row ns found away = go row.stage refl away where
-    ends-at : (n : ℕ) (e : Epoch) → whereabouts p.row ≡ AtNode n e.0 → e.0 ≡ epoch → Goes_to (Over (Some (record { 0 = epoch }))) ns
+    ends-at : (n : ℕ) (e : Epoch) → whereabouts p.row ≡ AtNode n e.0 → e.0 ≡ epoch
+        → FrontGoes c nodes (whereabouts p.row) (Over (Some (record { 0 = epoch }))) ns
     ends-at n e at same = Ends n epoch (at ∙ ap (AtNode n) same) refl
 
-    go : (st : FrontConn) → row.stage ≡ st → is_away epoch st ≡ true → Goes_to (Over (Some (record { 0 = epoch }))) ns
+    go : (st : FrontConn) → row.stage ≡ st → is_away epoch st ≡ true → FrontGoes c nodes (whereabouts p.row) (Over (Some (record { 0 = epoch }))) ns
     go (stage.Offering n e) at is = ends-at n e (in-stage p row (stage.Offering n e) (found, at)) (eqb-true e.0 epoch is)
     go (stage.Moved n e) at is = ends-at n e (in-stage p row (stage.Moved n e) (found, at)) (eqb-true e.0 epoch is)
     go _ at is = let no : false ≡ true = is in absurd cc
 
-  by-rules : KeptByFront env p (λ g. Unit {0}) (λ w o. Unit {0}) DeedGoes
+  -- it comes back
+  by-return : (said : List (Place × List ℕ)) (n : ℕ) (from : Epoch) (row : FrontRow) (parts : EndpointParts) → IsAwayWith p row n from
+      → IsPast from.0 (nodes n).row
+      → KeptByReturn env p said row parts (λ w o. Unit {0}) DeedGoes
+  by-return said n from row parts at past =
+      let back : FrontRow = returned_row parts row in record {
+        reads = tt;
+        holds = λ w r. Returns n from.0 was past (held-goes (back_part p row parts) back (back_rest parts) (serving_settled env.serve w));
+        hands = λ w path choice r is. Returns n from.0 was past (hands-goes back w.notes (w.count + 1) path choice);
+        waits = λ w path r is. Returns n from.0 was past
+            (waits-goes (back_part p row parts) back (record (back_rest parts) { target = Some path }) (spoken env.serve (waiting_service env w) []));
+      } where
+        was : whereabouts p.row ≡ AtNode n from.0
+        was = ⊎_elim (λ offering. in-stage p row (stage.Offering n from) offering) (λ moved. in-stage p row (stage.Moved n from) moved) at
+
+  -- what comes back did so from a node that did not take it
+  abbrev pub MayReturn : FrontGets → Type 0
+  MayReturn (ReturnedBy n epoch given) = (row : FrontRow) (parts : EndpointParts) → IsBack p n epoch given row parts → IsPast epoch (nodes n).row
+  MayReturn _ = Unit {0}
+
+  by-rules : KeptByFront env p MayReturn (λ w o. Unit {0}) DeedGoes
   by-rules = record {
     drops = tt;
     hears = λ bytes s m. by-segment bytes s;
     fires = λ m. record {
       drops = tt;
-      holds = λ row b at. held-goes row (front_rest p.rest) (front_fired env (front_rest p.rest) b) (in-stage p row (stage.Held b) at);
-      stays = λ row b at. waits-goes row (front_rest p.rest) (front_fired env (front_rest p.rest) b) (in-stage p row (stage.Waiting b) at);
+      holds = λ row b at. FromHere (in-stage p row (stage.Held b) at) (held-goes p row (front_rest p.rest) (front_fired env (front_rest p.rest) b));
+      stays = λ row b at. FromHere (in-stage p row (stage.Waiting b) at) (waits-goes p row (front_rest p.rest) (front_fired env (front_rest p.rest) b));
       resends = λ row n e at. tt;
     };
     takes = λ i epoch m row n e at same. Stays (ap (AtNode n) (sym same) ∙ sym (in-stage p row (stage.Offering n e) at));
@@ -124,11 +153,15 @@ module _ (env : FrontEnv) (p : FrontPart) where
     assigns_next = λ n epoch ask m rest found there next. Stays refl;
     ends_again = λ n epoch last m row found away again. tt;
     ends = λ n epoch last m row found away. ends-goes epoch row (rec.Took Front c (next_epoch row) ∷ rec.Released c ∷ []) found away;
-    admits = λ choice made met row b path at target. hands-goes row [] ((front_rest p.rest).count + 1) path choice (in-stage p row (stage.Waiting b) at);
+    gives_again = λ n epoch parts m row found past. tt;
+    returns = λ n epoch given m row parts at. by-return (given_sent c n epoch given) n at.from row parts at.at
+        (subst (λ (e : ℕ). IsPast e (nodes n).row) (sym at.epoch_is) (m row parts at));
+    admits = λ choice made met row b path at target. FromHere (in-stage p row (stage.Waiting b) at)
+        (hands-goes row [] ((front_rest p.rest).count + 1) path choice);
   }
 
-  rule-goes : (g : FrontGets) → IsAsGiven env p g → DeedGoes (front_rule env p g)
-  rule-goes g is = front-keeps env p (λ g. Unit {0}) (λ w o. Unit {0}) DeedGoes by-rules g is tt
+  rule-goes : (g : FrontGets) → IsAsGiven env p g → MayReturn g → DeedGoes (front_rule env p g)
+  rule-goes g is may = front-keeps env p MayReturn (λ w o. Unit {0}) DeedGoes by-rules g is may
 
 -- ---- a node
 
@@ -177,7 +210,7 @@ module _ (x : Conn) (n epoch : ℕ) (env : NodeEnv) (heads : List Seen) (placed 
       → whereabouts_of x ≡ AtNode n env.epoch
   begins-there parts come new =
       let said : IsDecided epoch p.row ⊎ IsOffered n epoch x.part.front.row =
-      came-says x Front (Node n) epoch (body.Offer parts) come.bytes placed.letters come.was come.spells in
+      offer-says x placed n epoch parts come.bytes come.was come.spells in
       let offered : IsOffered n epoch x.part.front.row = ⊎_elim
       (λ (d : IsDecided epoch p.row). absurd (not-decided epoch p.row (subst (λ (i : ℕ). offer_answer i p.row ≡ New) now new) d))
       (λ (o : IsOffered n epoch x.part.front.row). o) said in
@@ -207,14 +240,16 @@ module _ (x : Conn) (n epoch : ℕ) (env : NodeEnv) (heads : List Seen) (placed 
 
 -- The front end moves it, and no node does; or a node does, and the front end does not.
 pub data Goes (x : Conn) (v : Move) : Type 0 where
-  InFront : v.part.nodes ≡ x.part.nodes → FrontGoes x.c (whereabouts_of x) (whereabouts v.part.front.row) v.said.notes → Goes x v
+  InFront : v.part.nodes ≡ x.part.nodes → FrontGoes x.c x.part.nodes (whereabouts_of x) (whereabouts v.part.front.row) v.said.notes → Goes x v
   InNode : (n : ℕ) (q : NodePart) → v.part.front ≡ x.part.front → v.part.nodes ≡ node_put_back x.part.nodes n q
       → NodeGoes n (whereabouts_of x) (x.part.nodes n).row q.row → Goes x v
 
-front-moves : (x : Conn) (env : FrontEnv) (heads : List Seen) (d : FrontDeed) → env.serve.c ≡ x.c → DeedGoes env x.part.front d → Goes x (front_does x heads d)
+front-moves : (x : Conn) (env : FrontEnv) (heads : List Seen) (d : FrontDeed) → env.serve.c ≡ x.c → DeedGoes env x.part.front x.part.nodes d
+    → Goes x (front_does x heads d)
 front-moves x env heads Drops number h = InFront refl (Stays refl)
 front-moves x env heads (Says turn) number h = InFront refl (Stays refl)
-front-moves x env heads (Does did) number h = InFront refl (subst (λ (c : ℕ). FrontGoes c (whereabouts_of x) (whereabouts did.part.row) did.turn.notes) number h)
+front-moves x env heads (Does did) number h = InFront refl
+    (subst (λ (c : ℕ). FrontGoes c x.part.nodes (whereabouts_of x) (whereabouts did.part.row) did.turn.notes) number h)
 
 -- with the record of a job in front, or none
 node-moves : (x : Conn) (n epoch : ℕ) (env : NodeEnv) (heads : List Seen) (g : NodeGets) (placed : IsPlaced x) (now : env.epoch ≡ epoch) (d : NodeDeed)
@@ -225,6 +260,11 @@ node-moves x n epoch env heads g placed now (node.Says messages) is h =
     InFront (ap (λ d. (node_does x n heads d).part.nodes) is) (Stays (ap (λ d. whereabouts (node_does x n heads d).part.front.row) is))
 node-moves x n epoch env heads g placed now (node.Does given) is h =
     InNode n given.0 (ap (λ d. (node_does x n heads d).part.front) is) (ap (λ d. (node_does x n heads d).part.nodes) is) h
+
+may-return : (x : Conn) (env : FrontEnv) (heads : List Seen) → IsPlaced x → (g : FrontGets) → FrontComes x env heads g
+    → MayReturn env x.part.front x.part.nodes g
+may-return x env heads placed (ReturnedBy n epoch given) comes = λ row parts at. (refuses x placed n epoch given heads comes row parts at).coming.2
+may-return x env heads placed _ comes = tt
 
 module _ (k : Setting) where
   abbrev Going : Conn → Move → Type 0
@@ -238,7 +278,7 @@ module _ (k : Setting) where
 
   fronts : FrontRules k Going
   fronts = each-front k Going (λ x env heads g is comes may. front-moves x env heads (front_rule env x.part.front g) is.number
-      (rule-goes env x.part.front g (admission x env heads g comes)))
+      (rule-goes env x.part.front x.part.nodes g (admission x env heads g comes) (may-return x env heads may.given g comes)))
 
   nodes : NodeRules k Going
   nodes = each-node k Going (record {

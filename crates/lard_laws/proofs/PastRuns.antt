@@ -1,9 +1,9 @@
 -- An epoch is of one node, and a node tells the end of a stay only where that is known: each rule keeps it, so it is in every run.
 use Rattle.std.proofs.Common.{◌≡◌, ◌⊎◌, ℕ, List, Option, Some, None, refl, sym, ap, ◌∙◌, subst, inl, inr, ⊎_elim, arith}
-use Rattle.lard_law_view.specs.Prelude.{BackConn, BackRow, Conn, Epoch, FrontConn, FrontRow, IsLaw, MayRestOn, Move, NodePart, Setting, gone, grown, node_put_back, Rec, setting, tale_at, with_leaving}
+use Rattle.lard_law_view.specs.Prelude.{BackConn, BackRow, Conn, Epoch, FrontConn, FrontRow, IsLaw, MayRestOn, Move, NodePart, Rec, Setting, gone, grown, node_put_back, setting, tale_at, with_leaving}
 use Rattle.lard_laws.specs.Past.{AtFront, AtNode, DecidedIn, EndsAreOfStays, EpochsAreOfOneNode, Over, RowTells, StageTells, Whereabouts, stage_whereabouts, whereabouts, whereabouts_of}
 use Rattle.lard_laws.specs.PastLaws.{EachEndIsOfItsStay, EachEpochIsOfOneNode}
-use Rattle.lard_laws.proofs.PastMoves.{Closes, Ends, Forgets, FrontGoes, Goes, Hands, InFront, InNode, IsThere, NodeGoes, Stays, going}
+use Rattle.lard_laws.proofs.PastMoves.{Ends, Forgets, FromHere, FrontGoes, Goes, InFront, InNode, IsThere, NodeGoes, Returns, Stays, going}
 use Rattle.lard_law_connections.proofs.PlacesRuns.{each-placed}
 use Rattle.lard_law_connections.proofs.PlacesTurns.{IsPlaced}
 use Rattle.lard_law_connections.specs.Places.{IsPast, OthersArePast, Owning, Sits, StageSits, owning}
@@ -109,11 +109,24 @@ module _ (n : ℕ) where
     go back.Ended k = λ i. Some (record { 0 = k.1 i })
     go _ k = tt
 
-  front-ends : (c : ℕ) (o q : Whereabouts) (ns : List Rec) (row : Option BackRow) → FrontGoes c o q ns → RowTells n row o → RowTells n row q
-  front-ends c o q ns row (Stays is) h = subst (RowTells n row) (sym is) h
-  front-ends c o q ns row (Hands m e here is noted) h = none-ends row q (subst (RowTells n row) here h)
-  front-ends c o q ns row (Closes by here is) h = none-ends row q (subst (RowTells n row) here h)
-  front-ends c o q ns row (Ends m e at is) h = subst (RowTells n row) (sym is) (over-ends row m e (subst (RowTells n row) at h))
+  -- it comes back from a node that did not take it
+  back-ends : (o : Option BackRow) (m e : ℕ) → (m ≡ n → IsPast e o) → RowTells n o (AtNode m e) → RowTells n o AtFront
+  back-ends None m e past h = tt
+  back-ends (Some row) m e past h = go row.stage h where
+    go : (c : BackConn) → StageTells n row.epoch.0 c (AtNode m e) → StageTells n row.epoch.0 c AtFront
+    go back.Ended k = let less = (past k.0).0 in let same = k.1 in omega (arith, less, same)
+    go _ k = tt
+
+  module _ (c : ℕ) (nodes : ℕ → NodePart) (o q : Whereabouts) (ns : List Rec) where
+    abbrev Tells : Whereabouts → Type 0
+    Tells at = RowTells n (nodes n).row at
+
+    front-ends : FrontGoes c nodes o q ns → Tells o → Tells q
+    front-ends (Stays is) h = subst Tells (sym is) h
+    front-ends (FromHere here goes) h = none-ends (nodes n).row q (subst Tells here h)
+    front-ends (Ends m e at is) h = subst Tells (sym is) (over-ends (nodes n).row m e (subst Tells at h))
+    front-ends (Returns m e at past goes) h =
+        none-ends (nodes n).row q (back-ends (nodes n).row m e (λ same. subst (λ (i : ℕ). IsPast e (nodes i).row) same past) (subst Tells at h))
 
   -- of a stay in the epoch in which it is there
   there-ends : (o : Option BackRow) (e : ℕ) → DecidedIn e o → RowTells n o (AtNode n e)
@@ -133,7 +146,7 @@ module _ (n : ℕ) where
 
 move-ends : (x : Conn) (v : Move) → Goes x v → EndsAreOfStays x → EndsAreOfStays (grown x v)
 move-ends x v (InFront same goes) h n = subst (λ (nodes : ℕ → NodePart). RowTells n (nodes n).row (whereabouts_of (grown x v))) (sym same)
-    (front-ends n x.c (whereabouts_of x) (whereabouts_of (grown x v)) v.said.notes (x.part.nodes n).row goes (h n))
+    (front-ends n x.c x.part.nodes (whereabouts_of x) (whereabouts_of (grown x v)) v.said.notes goes (h n))
 move-ends x v (InNode m q front same goes) h n = subst (λ (at : Whereabouts). RowTells n (v.part.nodes n).row at) (sym (ap (λ f. whereabouts f.row) front))
     (subst (λ (nodes : ℕ → NodePart). RowTells n (nodes n).row (whereabouts_of x)) (sym same)
     (put-each x.part.nodes m q (λ k p. RowTells k p.row (whereabouts_of x)) (node-ends m (whereabouts_of x) (x.part.nodes m).row q.row goes) (λ k other. h k) n))

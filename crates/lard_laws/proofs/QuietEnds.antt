@@ -5,7 +5,8 @@ use Rattle.std.specs.FinMap as table
 use Rattle.std.specs.List.{list_any}
 use Rattle.std.specs.Prelude.{IsSome}
 use Rattle.lard_base.proofs.Usable.{usable}
-use Rattle.lard_law_view.specs.Prelude.{ClientStands, Config, DispatchStanding, Has, IsComplete, IsReached, IsRowSound, IsStageSound, MAX_STREAM_BYTES, Machine, Station, Waiting, client_tale, config_check, conn, dispatch_standing, file_at, front_part, line_waits, numbers_of, part_of, tale}
+use Rattle.lard_law_view.specs.Prelude.{ClientStands, Config, DispatchStanding, FrontPart, Has, IsComplete, IsReached, IsRowSound, IsStageSound, MAX_STREAM_BYTES, Machine, Station, Waiting, client_tale, config_check, conn, dispatch_standing, file_at, front_part, line_waits, numbers_of, part_of, tale}
+use Rattle.lard_rules.specs.FrontSound.{OpenNodes, open_nodes_of}
 use Rattle.lard_laws.proofs.ClientsWriters.{clients-stand}
 use Rattle.lard_law_connections.specs.JobsLaws.{HasQueued}
 use Rattle.lard_law_connections.proofs.JobsRuns.{reads-are-queued}
@@ -53,9 +54,11 @@ module _ (config : Config) (files : List (List ℕ × List ℕ)) (checked : conf
   unfolding conn part_of
   waits-for-room (row, b, found, at) =
       let place : DispatchStanding = dispatch_standing m.front.dispatch c in
-      let whole : IsRowSound (front_part m.front c).rest (front_part m.front c).kept place (front_part m.front c).row = (reached-counted config files checked m r).sound.each c in
-      let of-row : IsStageSound row.epoch.0 (front_part m.front c).rest (front_part m.front c).kept place row.stage = subst (IsRowSound (front_part m.front c).rest (front_part m.front c).kept place) found whole in
-      let sound = subst (IsStageSound row.epoch.0 (front_part m.front c).rest (front_part m.front c).kept place) at of-row in
+      let nodes : OpenNodes = open_nodes_of m.front.dispatch in
+      let p : FrontPart = front_part m.front c in
+      let whole : IsRowSound nodes p.rest p.kept place p.row = (reached-counted config files checked m r).sound.each c in
+      let of-row : IsStageSound nodes row.epoch.0 p.rest p.kept place row.stage = subst (IsRowSound nodes p.rest p.kept place) found whole in
+      let sound = subst (IsStageSound nodes row.epoch.0 p.rest p.kept place) at of-row in
       let in_line : Has c (who m.front.dispatch.books.line) = in-line c m.front.dispatch.books.line (ap (λ (s : DispatchStanding). s.waits) sound.2) in (
         subst (Has c) (line-is-kept config files m checked r) in_line,
         (books-are-told config files m checked r).3 (some-wait c m.front.dispatch.books.line in_line),

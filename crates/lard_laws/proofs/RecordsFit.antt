@@ -1,5 +1,5 @@
 -- The numbers of an endpoint fit the message that offers it, and what holds of every endpoint holds of it, whatever comes and goes.
-use Rattle.std.proofs.Common.{◌≡◌, ℕ, ◌+◌, ◌≤◌, ◌<◌, ◌^◌, List, length, true, false, Ok, refl, sym, subst, arith}
+use Rattle.std.proofs.Common.{◌≡◌, ℕ, ◌+◌, ◌-◌, ◌≤◌, ◌<◌, ◌^◌, List, length, true, false, Ok, refl, sym, subst, arith}
 use Rattle.std.proofs.lemmas.Bool.{cond_both}
 use Rattle.lard_law_view.specs.Prelude.{ControlBlock, Dir, EndpointParts, FitsFields, IsControlBlock, IsOfTable, IsValidParts, Received, Said, Sending, Verdict, adopted, after_emit, after_timer, closed_behind, closes, consuming, decoded, discarding_on, finishing, listening, may_freeze, on_segment, parts_of, queueing}
 use Rattle.lard_endpoint.proofs.Adoption.{parts-valid}
@@ -99,8 +99,14 @@ fit-timer b h = record {
 pub fit-listening : (syn : Said) (iss : ℕ) → IsTold syn → iss < 2 ^ 32 → IsFit (listening syn iss)
 fit-listening syn iss told small = record { block = listening-sound syn iss; irs = told.seq; iss = small; wide = record { wnd = told.wnd; wl1 = told.seq; wl2 = small } }
 
--- one that goes on from an Offer
-pub fit-adopted : (p : EndpointParts) → IsValidParts p → FitsFields (body.Offer p) → IsFit (adopted p)
+-- what a message may bring of an endpoint
+pub record IsAdoptable (parts : EndpointParts) : Type 0 where
+  pub valid : IsValidParts parts
+  pub fits : FitsFields (body.Offer parts)
+  pub unread : AreBytes parts.unread
+
+-- one that goes on from it
+fit-adopted : (p : EndpointParts) → IsValidParts p → FitsFields (body.Offer p) → IsFit (adopted p)
 fit-adopted p valid fits = record { block = adopted-sound p valid; irs = fits.0; iss = fits.1; wide = record { wnd = fits.2; wl1 = fits.3; wl2 = fits.4 } } where
   adopted-sound : (p : EndpointParts) → IsValidParts p → IsControlBlock (adopted p)
   adopted-sound p v =
@@ -154,3 +160,11 @@ module _ (least : ℕ) where
 
   pub keeping-timer : (b : ControlBlock) → Keeping least b → Keeping least (after_timer b)
   keeping-timer b h = let bytes = timer-keeps least b (h.0, h.1) in (bytes.0, bytes.1, fit-timer b h.2)
+
+-- with the responses that it had
+pub keeping-adopted : (parts : EndpointParts) → IsAdoptable parts → Keeping (parts.served - 2 ^ 30) (adopted parts)
+keeping-adopted parts fit =
+    let got = fit.valid.received in
+    let answered = fit.valid.answered in
+    let acked = fit.valid.acknowledged in
+    ((tt, omega (arith, got, answered), omega (arith, acked)), fit.unread, fit-adopted parts fit.valid fit.fits)

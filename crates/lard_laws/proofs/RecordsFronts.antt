@@ -1,16 +1,17 @@
 -- What each rule of the front end keeps of a connection, and that its turn is in range.
-use Rattle.std.proofs.Common.{◌≡◌, ℕ, suc, ◌+◌, ◌-◌, ◌*◌, ◌≤◌, ◌<◌, ◌^◌, ◌==◌, ◌&&◌, not, List, [], ◌∷◌, length, map, Bool, true, false, Option, Some, None, IfSome, Ok, Err, Result, ⊎_elim, refl, sym, ap, subst, arith, eqb-true}
+use Rattle.std.proofs.Common.{◌≡◌, ℕ, suc, ◌+◌, ◌-◌, ◌*◌, ◌≤◌, ◌<◌, ◌^◌, ◌==◌, ◌&&◌, not, List, [], ◌∷◌, length, map, Bool, true, false, Option, Some, None, IfSome, Ok, Err, Result, ⊎_elim, refl, sym, ap, ◌∙◌, subst, arith, eqb-true}
 use Rattle.std.proofs.lemmas.Bool.{and_parts, cond_both, not-true}
 use Rattle.std.specs.List.{AllByRecursion}
-use Rattle.lard_law_view.specs.Prelude.{Ask, ControlBlock, Ending, Epoch, Final, First, FirstChoice, Found, FrontConn, FrontDeed, FrontEnv, FrontPart, FrontRest, FrontRow, FrontTurn, IsChoiceInRange, IsEarlyAway, IsEarlyHere, IsNumber, IsPlaceInRange, IsRecordInRange, IsUnspaced, Later, LaterChoice, Place, Reading, Reason, Said, SegFault, Service, Step, Turn, Verdict, ack_sent, after_timer, ask_of, assigned_notes, assigns, block_at, cut_of, forwarded, front_admitted, front_asked, front_ended, front_fired, front_gets, front_reads, front_rest, front_rests, front_saying, front_taken, front_timer, good_path, handed_off, holds, is_away, is_row_at, is_telling, is_with, last_ack, last_words, may_freeze, may_read, next_epoch, offer_kept, on_segment, over_note, reading_left, reading_turn, reads_block, reads_found, refusal, sent_of, serving, serving_consumed, serving_ready_of, serving_settled, serving_told, spoken, tag_sent, targeted, timed, tombstone, turn_here, waits_on, without}
+use Rattle.lard_law_view.specs.Prelude.{Ask, ControlBlock, Ending, EndpointParts, Epoch, Final, First, FirstChoice, Found, FrontConn, FrontDeed, FrontEnv, FrontPart, FrontRest, FrontRow, FrontTurn, IsChoiceInRange, IsMessage, IsNumber, IsPlaceInRange, IsRecordInRange, IsUnspaced, Kept, Later, LaterChoice, Place, Reading, Reason, Said, SegFault, Service, Step, Turn, Verdict, ack_sent, adopted, after_timer, ask_of, assigned_notes, assigns, back_part, back_rest, block_at, cut_of, forwarded, front_admitted, front_asked, front_ended, front_fired, front_gets, front_reads, front_rest, front_rests, front_saying, front_taken, front_timer, given_sent, good_path, handed_off, heard, holds, is_row_at, is_telling, is_with, last_ack, last_words, may_freeze, may_read, next_epoch, offer_kept, on_segment, over_note, parts_kept, placed, reading_left, reading_turn, reads_block, reads_found, reads_on, refusal, returned_row, sent_of, serving, serving_consumed, serving_ready_of, serving_settled, serving_told, settled_by, spoken, tag_sent, targeted, timed, tombstone, turn_here, waits_on, without}
 use Rattle.lard_base.specs.declared.place.Place.TheVariants as place
 use Rattle.lard_base.specs.declared.place.Reason.TheVariants as reason
 use Rattle.lard_base.specs.declared.place.TimerKind.TheVariants as kind
 use Rattle.lard_base.specs.declared.place.Via.TheVariants.{Own}
 use Rattle.lard_block.specs.declared.block.Found.TheVariants.{Block, More, TooLong}
 use Rattle.lard_rules.specs.Bounds as cluster
-use Rattle.lard_laws.proofs.RecordsFit.{IsTold, fit-listening, keeping-segment, keeping-timer, offer-fits}
-use Rattle.lard_laws.proofs.RecordsLetters.{IsLetter, bytes-message, conn-number, spells}
+use Rattle.lard_law_connections.proofs.ReturnedParts.{ReadsOffer, reads-offer}
+use Rattle.lard_laws.proofs.RecordsFit.{IsAdoptable, IsTold, fit-listening, keeping-adopted, keeping-segment, keeping-timer, offer-fits}
+use Rattle.lard_laws.proofs.RecordsLetters.{IsLetter, bytes-message, conn-number, is-message, offer-read, spells}
 use Rattle.lard_laws.proofs.RecordsNamed.{AreNamed, IsNamed, contents, verdict-named}
 use Rattle.lard_laws.proofs.RecordsServing.{EndFits, EndKeeps, Keeps, Serves, TurnFits, answered-serves, consumed-serves, count-few, ended-serves, ready-few, ready-sent, settled-fits, spoken-fits, told-sent}
 use Rattle.lard_laws.proofs.RecordsTurns.{AreHeld, IsTurn, held-less, held-sent, length-held, length-less, sends}
@@ -19,7 +20,8 @@ use Rattle.lard_dispatch.specs.Sound as dispatch
 use Rattle.lard_dispatch.proofs.Chosen.{IsChosen}
 use Rattle.lard_rules.specs.Front.{Drops, Says, Does}
 use Rattle.lard_rules.proofs.FrontBlocks.{EndsIdle, EndsServing, ServesAs, idle-of, segment-idle, segment-serves, settled-serves, spoken-idle, spoken-serves, timer-idle, timer-serves}
-use Rattle.lard_rules.proofs.FrontCases.{IsInStage, KeptBySegment, admitted-keeps, asked-keeps, begun_row, begun_service, ended-keeps, fired_before, fired_service, heard_reading, heard_service, of-stage, segment-keeps, taken-keeps, timer-keeps, waiting_service}
+use Rattle.lard_rules.proofs.FrontCases.{IsInStage, KeptBySegment, admitted-keeps, asked-keeps, begun_row, begun_service, ended-keeps, fired_before, fired_service, heard_service, of-stage, segment-keeps, taken-keeps, timer-keeps, waiting_service}
+use Rattle.lard_rules.proofs.FrontReturning.{adopted-serves}
 use Rattle.lard_rules.proofs.FrontTurns.{HasStopped, reads-stop}
 use Rattle.lard_handoff_front.specs.declared.row.FrontConn.TheVariants as stage
 use Rattle.lard_history.proofs.Each.{Each, Each-append}
@@ -42,19 +44,27 @@ IsNode n = dispatch.IsNode 64 n
 pub node-number : (n : ℕ) → IsNode n → IsNumber n
 node-number n h = let most = h.1 in omega (arith, most)
 
--- The front end has it in an early epoch, and a node too, and a message has that epoch; what is here is bytes, serves
--- what was asked for, and may move where it waits.
-abbrev pub StageKeeps : ℕ → ℕ → FrontConn → Type 0
-StageKeeps e count (stage.Held b) = IsEarlyHere e × Keeps count b × ServesAs count b
-StageKeeps e count (stage.Waiting b) = IsEarlyHere e × Keeps count b × ServesAs count b × (may_freeze b ≡ true)
-StageKeeps e count stage.Lent = IsEarlyHere e
-StageKeeps e count (stage.Offering node d) = IsEarlyAway e × IsNode node × (d.0 < 2 ^ 16)
-StageKeeps e count (stage.Moved node d) = IsEarlyAway e × IsNode node × (d.0 < 2 ^ 16)
-StageKeeps e count (stage.Closed last) = Unit {0}
+-- What is here is bytes, serves what was asked for, and may move where it waits; and where it is away is a node, in an epoch of messages.
+abbrev pub StageKeeps : ℕ → FrontConn → Type 0
+StageKeeps count (stage.Held b) = Keeps count b × ServesAs count b
+StageKeeps count (stage.Waiting b) = Keeps count b × ServesAs count b × (may_freeze b ≡ true)
+StageKeeps count stage.Lent = Unit {0}
+StageKeeps count (stage.Offering node d) = IsNode node × (d.0 < 2 ^ 16)
+StageKeeps count (stage.Moved node d) = IsNode node × (d.0 < 2 ^ 16)
+StageKeeps count (stage.Closed last) = Unit {0}
 
 abbrev pub RowKeeps : ℕ → ℕ → Option FrontRow → Type 0
 RowKeeps c count None = Unit {0}
-RowKeeps c count (Some row) = cluster.IsConnNumber c × StageKeeps row.epoch.0 count row.stage
+RowKeeps c count (Some row) = cluster.IsConnNumber c × StageKeeps count row.stage
+
+-- its epoch has so much room in its field
+abbrev pub HasRoom : ℕ → Option FrontRow → Type 0
+HasRoom n None = Unit {0}
+HasRoom n (Some row) = row.epoch.0 + n < 2 ^ 16
+
+pub less-room : (n m : ℕ) (o : Option FrontRow) → m ≤ n → HasRoom n o → HasRoom m o
+less-room n m None le h = tt
+less-room n m (Some row) le h = omega (arith, le, h)
 
 -- The path with which it waits names a file, and the last Tag has one to eight nodes. Each Ask that was answered assigned at most
 -- eight requests.
@@ -105,6 +115,12 @@ abbrev pub DeedFits : ℕ → FrontDeed → Type 0
 DeedFits c Drops = Unit {0}
 DeedFits c (Says t) = FrontTurnFits t
 DeedFits c (Does x) = FrontKeeps c x.part × FrontTurnFits x.turn
+
+-- of one that ended, whose epoch has room still
+abbrev pub EndedFits : ℕ → FrontDeed → Type 0
+EndedFits c Drops = Unit {0}
+EndedFits c (Says t) = FrontTurnFits t
+EndedFits c (Does x) = FrontKeeps c x.part × HasRoom 1 x.part.row × FrontTurnFits x.turn
 
 -- an endpoint's turn is one of the front end
 here-fits : (t : Turn) → TurnFits place.Front t → FrontTurnFits (turn_here t)
@@ -219,19 +235,20 @@ module _ (env : FrontEnv) (own : env.serve.place ≡ place.Front) (conn : cluste
     Fits d = DeedFits c d
 
     -- it stays in a stage
-    abbrev StaysIn : ℕ → (ControlBlock → FrontConn) → Ending → Type 0
-    StaysIn e stays (ending.Here b count) = StageKeeps e count (stays b)
-    StaysIn e stays (ending.Over last) = Unit {0}
+    abbrev StaysIn : (ControlBlock → FrontConn) → Ending → Type 0
+    StaysIn stays (ending.Here b count) = StageKeeps count (stays b)
+    StaysIn stays (ending.Over last) = Unit {0}
 
-    stays-held : (e : ℕ) (x : Ending) → IsEarlyHere e → EndKeeps x → EndsServing x → StaysIn e stage.Held x
-    stays-held e (ending.Here b count) first k serves = (first, k, serves)
-    stays-held e (ending.Over last) first k serves = tt
+    stays-held : (x : Ending) → EndKeeps x → EndsServing x → StaysIn stage.Held x
+    stays-held (ending.Here b count) k serves = (k, serves)
+    stays-held (ending.Over last) k serves = tt
 
-    stays-waiting : (e : ℕ) (x : Ending) → IsEarlyHere e → EndKeeps x → EndsServing x → EndsIdle x → StaysIn e stage.Waiting x
-    stays-waiting e (ending.Here b count) first k serves idle = (first, k, serves, idle)
-    stays-waiting e (ending.Over last) first k serves idle = tt
+    stays-waiting : (x : Ending) → EndKeeps x → EndsServing x → EndsIdle x → StaysIn stage.Waiting x
+    stays-waiting (ending.Here b count) k serves idle = (k, serves, idle)
+    stays-waiting (ending.Over last) k serves idle = tt
 
-    rests-keep : (row : FrontRow) (rest : FrontRest) (stays : ControlBlock → FrontConn) (e : Ending) → StaysIn row.epoch.0 stays e → RestKeeps rest → FrontKeeps c (front_rests p row rest stays e)
+    rests-keep : (row : FrontRow) (rest : FrontRest) (stays : ControlBlock → FrontConn) (e : Ending) → StaysIn stays e → RestKeeps rest
+        → FrontKeeps c (front_rests p row rest stays e)
     rests-keep row rest stays (ending.Here b count) on r = record {
       row = (conn, on);
       rest = record { assigned = r.assigned; asks = r.asks; tag = r.tag; some = r.some; short = r.short; target = r.target };
@@ -240,16 +257,19 @@ module _ (env : FrontEnv) (own : env.serve.place ≡ place.Front) (conn : cluste
     }
     rests-keep row rest stays (ending.Over last) on r = record { row = (conn, tt); rest = no-rest; kept = held.kept; few = held.few }
 
-    holds-fits : (row : FrontRow) (rest : FrontRest) (given : Ending × Turn) → IsEarlyHere row.epoch.0 → RestKeeps rest → EndFits place.Front given → EndsServing given.0 → Fits (holds p row rest given)
-    holds-fits row rest given first r h serves = (rests-keep row rest stage.Held given.0 (stays-held row.epoch.0 given.0 first h.keeps serves) r, here-fits given.1 h.turn)
+    holds-fits : (row : FrontRow) (rest : FrontRest) (given : Ending × Turn) → RestKeeps rest → EndFits place.Front given → EndsServing given.0
+        → Fits (holds p row rest given)
+    holds-fits row rest given r h serves = (rests-keep row rest stage.Held given.0 (stays-held given.0 h.keeps serves) r, here-fits given.1 h.turn)
 
-    waits-fits : (row : FrontRow) (rest : FrontRest) (given : Ending × Turn) → IsEarlyHere row.epoch.0 → RestKeeps rest → EndFits place.Front given → EndsServing given.0 → EndsIdle given.0
+    waits-fits : (row : FrontRow) (rest : FrontRest) (given : Ending × Turn) → RestKeeps rest → EndFits place.Front given → EndsServing given.0
+        → EndsIdle given.0
         → Fits (waits_on env p row rest given)
-    waits-fits row rest given first r h serves idle = (rests-keep row rest stage.Waiting given.0 (stays-waiting row.epoch.0 given.0 first h.keeps serves idle) r, here-fits given.1 h.turn)
+    waits-fits row rest given r h serves idle = (rests-keep row rest stage.Waiting given.0 (stays-waiting given.0 h.keeps serves idle) r, here-fits given.1 h.turn)
 
     -- ---- the hand-off
 
-    handed-fits : (row : FrontRow) (w : Service) (path : List ℕ) (choice : FirstChoice) → IsEarlyHere row.epoch.0 → IsServing w → ServesAs w.count w.block → may_freeze w.block ≡ true → IsNamed path → IsChosen 64 choice
+    handed-fits : (row : FrontRow) (w : Service) (path : List ℕ) (choice : FirstChoice) → row.epoch.0 + 1 < 2 ^ 16 → IsServing w → ServesAs w.count w.block
+        → may_freeze w.block ≡ true → IsNamed path → IsChosen 64 choice
         → FrontKeeps c (handed_off env row w path choice).0 × FrontTurnFits (handed_off env row w path choice).1
     handed-fits row w path choice early h serves may n chosen =
         let few = count-few w.count w.block h.keeps in
@@ -257,7 +277,7 @@ module _ (env : FrontEnv) (own : env.serve.place ≡ place.Front) (conn : cluste
         let offer : IsSaid (sent_of (offer_kept c row w.block w.count choice.node)) =
         (node-number choice.node chosen.node, bytes-message c (next_epoch row).0 (body.Offer _) h.keeps.1, tt, spells c (next_epoch row).0 (body.Offer _) conn (omega (arith, early)) parts.0 parts.1) in (
           record {
-            row = (conn, (omega (arith, early), chosen.node, omega (arith, early)));
+            row = (conn, (chosen.node, omega (arith, early)));
             rest = record { assigned = omega (arith, few); asks = omega arith; tag = tt; some = λ some. absurd (omega (arith, some)); short = omega arith; target = tt };
             kept = (offer, tt);
             few = omega arith;
@@ -274,8 +294,12 @@ module _ (env : FrontEnv) (own : env.serve.place ≡ place.Front) (conn : cluste
         )
 
     -- what holds in its stage
-    kept-at : (row : FrontRow) (st : FrontConn) → IsInStage p row st → StageKeeps row.epoch.0 (front_rest p.rest).count st
+    kept-at : (row : FrontRow) (st : FrontConn) → IsInStage p row st → StageKeeps (front_rest p.rest).count st
     kept-at row st at = (of-stage (RowKeeps c (front_rest p.rest).count) p row st at held.row).1
+
+    -- and that its epoch has room
+    room-at : (n : ℕ) (row : FrontRow) → p.row ≡ Some row → HasRoom n p.row → row.epoch.0 + n < 2 ^ 16
+    room-at n row found room = subst (HasRoom n) found room
 
     -- ---- segments
 
@@ -304,42 +328,77 @@ module _ (env : FrontEnv) (own : env.serve.place ≡ place.Front) (conn : cluste
     abbrev Came : Service → Option (List ℕ) → Type 0
     Came w o = IsReading (record { service = w; target = o }) × HasStopped (record { service = w; target = o })
 
-    by-segment : AnswersFit env → env.iss < 2 ^ 32 → (bytes : List ℕ) (s : Said) → AreBytes bytes → IsTold s → IsSegment bytes → KeptBySegment env p bytes s Came Fits
-    by-segment answers first bytes s h told long = record {
+    holds-came : (row : FrontRow) (rest : FrontRest) → RestKeeps rest → (w : Service) → Came w None → Fits (holds p row rest (serving_settled env.serve w))
+    holds-came row rest r w came = holds-fits row rest (serving_settled env.serve w) r
+        (subst (λ (q : Place). EndFits q (serving_settled env.serve w)) own (settled-fits env.serve number small (contents env.serve.files named) at w came.0.0))
+        (settled-serves env.serve w came.1.0)
+
+    hands-came : (row : FrontRow) (rest : FrontRest) → row.epoch.0 + 1 < 2 ^ 16 → (w : Service) (path : List ℕ) (choice : FirstChoice) → Came w (Some path)
+        → IsChosen 64 choice
+        → Fits (Does (placed env p row rest w path (first.Go choice)))
+    hands-came row rest early w path choice came chosen = handed-fits row w path choice early came.0.0 came.1.0 came.1.1 came.0.1 chosen
+
+    waits-came : (row : FrontRow) (rest : FrontRest) → RestKeeps rest → (w : Service) (path : List ℕ) → Came w (Some path)
+        → Fits (Does (placed env p row rest w path first.Waits))
+    waits-came row rest r w path came =
+        let v : Service = waiting_service env w in
+        let says : EndFits place.Front (spoken env.serve v []) =
+        spoken-front v [] tt (omega arith)
+        (record { notes = Each-append IsRecordInRange w.notes (rec.Waits c ∷ []) came.0.0.notes (number, tt); keeps = came.0.0.keeps; over = came.0.0.over }) in
+        waits-fits row (record rest { target = Some path }) (spoken env.serve v [])
+        (record { assigned = r.assigned; asks = r.asks; tag = r.tag; some = r.some; short = r.short; target = came.0.1 }) says
+        (spoken-serves env.serve v [] came.1.0) (spoken-idle env.serve v [] (idle-of w.block came.1.1 came.1.0.sent))
+
+    reads-came : (b : ControlBlock) (count : ℕ) → Keeps count b → ServesAs count b
+        → (let x : Reading = front_reads env.serve (record { service = serving b count []; target = None }) in Came x.service x.target)
+    reads-came b count keeps serves =
+        (reads-read (record { service = serving b count []; target = None }) (fresh b count keeps, tt), reads-stop env.serve (serving b count []) serves)
+
+    -- an endpoint reads on
+    pub reads-fit : ((path : List ℕ) → FirstFits (env.first path)) → (row : FrontRow) (rest : FrontRest) → row.epoch.0 + 1 < 2 ^ 16 → RestKeeps rest
+        → (b : ControlBlock)
+        → Keeps rest.count b → ServesAs rest.count b → Fits (heard env p row rest b)
+    reads-fit answers row rest early r b keeps serves = settled x.service x.target (reads-came b rest.count keeps serves) where
+      x : Reading
+      x = front_reads env.serve (record { service = serving b rest.count []; target = None })
+
+      goes : (w : Service) (path : List ℕ) → Came w (Some path) → (f : First) → FirstFits f → Fits (Does (placed env p row rest w path f))
+      goes w path came (first.Go choice) chosen = hands-came row rest early w path choice came chosen
+      goes w path came first.Waits chosen = waits-came row rest r w path came
+
+      settled : (w : Service) (o : Option (List ℕ)) → Came w o → Fits (settled_by env p row rest w o)
+      settled w None came = holds-came row rest r w came
+      settled w (Some path) came = goes w path came (env.first path) (answers path)
+
+    by-segment : AnswersFit env → HasRoom 1 p.row → env.iss < 2 ^ 32 → (bytes : List ℕ) (s : Said) → AreBytes bytes → IsTold s → IsSegment bytes
+        → KeptBySegment env p bytes s Came Fits
+    by-segment answers room first bytes s h told long = record {
       drops = tt;
-      begins = λ none plain. holds-fits begun_row (front_rest None) (spoken env.serve (begun_service env s) []) (omega arith) no-rest
+      begins = λ none plain. holds-fits begun_row (front_rest None) (spoken env.serve (begun_service env s) []) no-rest
           (spoken-front (begun_service env s) [] tt (omega arith) (record { notes = ((tt, number, omega arith), tt); keeps = ((tt, omega arith, omega arith), tt, fit-listening s env.iss told first); over = tt }))
           (spoken-serves env.serve (begun_service env s) [] (record { asked = omega arith; most = omega arith; sent = omega arith }));
-      reads = λ row b at. let k = kept-at row (stage.Held b) at in (
-        reads-read (heard_reading p b s) (fresh (on_segment b s).1 (front_rest p.rest).count (keeping-segment ((front_rest p.rest).count - 2 ^ 30) b s told k.1), tt),
-        reads-stop env.serve (heard_service p b s) (segment-serves (front_rest p.rest).count b s k.2),
-      );
-      holds = λ row b w here came. holds-fits row (front_rest p.rest) (serving_settled env.serve w) (kept-at row (stage.Held b) here).0 held.rest
-          (subst (λ (q : Place). EndFits q (serving_settled env.serve w)) own (settled-fits env.serve number small (contents env.serve.files named) at w came.0.0)) (settled-serves env.serve w came.1.0);
-      hands = λ row b w path choice here came is. handed-fits row w path choice (kept-at row (stage.Held b) here).0 came.0.0 came.1.0 came.1.1 came.0.1 (subst FirstFits is (answers.first path));
-      waits = λ row b w path here came is.
-          let v : Service = waiting_service env w in
-          let r : RestKeeps (front_rest p.rest) = held.rest in
-          let says : EndFits place.Front (spoken env.serve v []) =
-          spoken-front v [] tt (omega arith) (record { notes = Each-append IsRecordInRange w.notes (rec.Waits c ∷ []) came.0.0.notes (number, tt); keeps = came.0.0.keeps; over = came.0.0.over }) in
-          waits-fits row (record (front_rest p.rest) { target = Some path }) (spoken env.serve v []) (kept-at row (stage.Held b) here).0
-          (record { assigned = r.assigned; asks = r.asks; tag = r.tag; some = r.some; short = r.short; target = came.0.1 }) says
-          (spoken-serves env.serve v [] came.1.0) (spoken-idle env.serve v [] (idle-of w.block came.1.1 came.1.0.sent));
+      reads = λ row b at. let k = kept-at row (stage.Held b) at in
+          reads-came (on_segment b s).1 (front_rest p.rest).count (keeping-segment ((front_rest p.rest).count - 2 ^ 30) b s told k.0)
+          (segment-serves (front_rest p.rest).count b s k.1);
+      holds = λ row b w here came. holds-came row (front_rest p.rest) held.rest w came;
+      hands = λ row b w path choice here came is. hands-came row (front_rest p.rest) (room-at 1 row here.0 room) w path choice came (subst FirstFits is (answers.first path));
+      waits = λ row b w path here came is. waits-came row (front_rest p.rest) held.rest w path came;
       stays = λ row b at.
           let k = kept-at row (stage.Waiting b) at in
           let w : Service = heard_service p b s in
-          waits-fits row (front_rest p.rest) (spoken env.serve w []) k.0 held.rest
-          (spoken-front w [] tt (omega arith) (fresh (on_segment b s).1 (front_rest p.rest).count (keeping-segment ((front_rest p.rest).count - 2 ^ 30) b s told k.1)))
-          (spoken-serves env.serve w [] (segment-serves (front_rest p.rest).count b s k.2)) (spoken-idle env.serve w [] (segment-idle b s (idle-of b k.3 k.2.sent)));
+          waits-fits row (front_rest p.rest) (spoken env.serve w []) held.rest
+          (spoken-front w [] tt (omega arith) (fresh (on_segment b s).1 (front_rest p.rest).count (keeping-segment ((front_rest p.rest).count - 2 ^ 30) b s told k.0)))
+          (spoken-serves env.serve w [] (segment-serves (front_rest p.rest).count b s k.1)) (spoken-idle env.serve w [] (segment-idle b s (idle-of b k.2 k.1.sent)));
       forwards = λ row n e at.
           let k = ⊎_elim (λ (i : IsInStage p row (stage.Offering n e)). kept-at row (stage.Offering n e) i) (λ (i : IsInStage p row (stage.Moved n e)). kept-at row (stage.Moved n e) i) at in
-          forwarded-fits n e bytes k.1 k.2 h long;
+          forwarded-fits n e bytes k.0 k.1 h long;
       words = λ row last at. ended-fits last.reason last s;
     }
 
-    pub gets-fits : AnswersFit env → env.iss < 2 ^ 32 → (bytes : List ℕ) (r : Result Said SegFault) → AreBytes bytes → ((s : Said) → r ≡ Ok s → IsTold s × IsSegment bytes) → Fits (front_gets env p bytes r)
-    gets-fits answers first bytes (Err fault) h d = tt
-    gets-fits answers first bytes (Ok s) h d = let said = d s refl in segment-keeps env p bytes s Came Fits (by-segment answers first bytes s h said.0 said.1)
+    pub gets-fits : AnswersFit env → HasRoom 1 p.row → env.iss < 2 ^ 32 → (bytes : List ℕ) (r : Result Said SegFault) → AreBytes bytes
+        → ((s : Said) → r ≡ Ok s → IsTold s × IsSegment bytes) → Fits (front_gets env p bytes r)
+    gets-fits answers room first bytes (Err fault) h d = tt
+    gets-fits answers room first bytes (Ok s) h d = let said = d s refl in segment-keeps env p bytes s Came Fits (by-segment answers room first bytes s h said.0 said.1)
 
     -- ---- timers
 
@@ -356,10 +415,10 @@ module _ (env : FrontEnv) (own : env.serve.place ≡ place.Front) (conn : cluste
     fires-fits = timer-keeps env p Fits (record {
       drops = tt;
       holds = λ row b at. let k = kept-at row (stage.Held b) at in
-          holds-fits row (front_rest p.rest) (front_fired env (front_rest p.rest) b) k.0 held.rest (fired-fits (front_rest p.rest) b k.1) (fired-serves (front_rest p.rest) b k.2);
+          holds-fits row (front_rest p.rest) (front_fired env (front_rest p.rest) b) held.rest (fired-fits (front_rest p.rest) b k.0) (fired-serves (front_rest p.rest) b k.1);
       stays = λ row b at. let k = kept-at row (stage.Waiting b) at in
-          waits-fits row (front_rest p.rest) (front_fired env (front_rest p.rest) b) k.0 held.rest (fired-fits (front_rest p.rest) b k.1) (fired-serves (front_rest p.rest) b k.2)
-          (spoken-idle env.serve (fired_service p b) (fired_before env b) (timer-idle b (idle-of b k.3 k.2.sent)));
+          waits-fits row (front_rest p.rest) (front_fired env (front_rest p.rest) b) held.rest (fired-fits (front_rest p.rest) b k.0) (fired-serves (front_rest p.rest) b k.1)
+          (spoken-idle env.serve (fired_service p b) (fired_before env b) (timer-idle b (idle-of b k.2 k.1.sent)));
       resends = λ row n e at.
           let few = held.few in
           let as_many = length-held p.kept in
@@ -377,21 +436,21 @@ module _ (env : FrontEnv) (own : env.serve.place ≡ place.Front) (conn : cluste
 
     pub taken-fits : (epoch : ℕ) → epoch < 2 ^ 16 → Fits (front_taken p epoch)
     taken-fits epoch early = taken-keeps p Fits tt epoch (λ row n e at same. let k = kept-at row (stage.Offering n e) at in (
-      record { row = (conn, (k.0, k.1, early)); rest = held.rest; kept = less; few = less-few },
+      record { row = (conn, (k.0, early)); rest = held.rest; kept = less; few = less-few },
       sends place.Front [] tt (omega arith),
     ))
 
     -- ---- an Ask
 
-    with-fits : (e count from epoch : ℕ) (x : FrontConn) → StageKeeps e count x → is_with from epoch x ≡ true → IsNode from
-    with-fits e count from epoch (stage.Offering n d) k is = subst IsNode (eqb-true n from (and_parts (n == from) (d.0 == epoch) is).0) k.1
-    with-fits e count from epoch (stage.Moved n d) k is = subst IsNode (eqb-true n from (and_parts (n == from) (d.0 == epoch) is).0) k.1
-    with-fits e count from epoch _ k is = let no : false ≡ true = is in absurd cc
+    with-fits : (count from epoch : ℕ) (x : FrontConn) → StageKeeps count x → is_with from epoch x ≡ true → IsNode from
+    with-fits count from epoch (stage.Offering n d) k is = subst IsNode (eqb-true n from (and_parts (n == from) (d.0 == epoch) is).0) k.0
+    with-fits count from epoch (stage.Moved n d) k is = subst IsNode (eqb-true n from (and_parts (n == from) (d.0 == epoch) is).0) k.0
+    with-fits count from epoch _ k is = let no : false ≡ true = is in absurd cc
 
     -- the node that asks is one
     at-fits : (from epoch : ℕ) (o : Option FrontRow) → RowKeeps c (front_rest p.rest).count o → is_row_at from epoch o ≡ true → IsNode from
     at-fits from epoch None k is = let no : false ≡ true = is in absurd cc
-    at-fits from epoch (Some row) k is = with-fits row.epoch.0 (front_rest p.rest).count from epoch row.stage k.1 is
+    at-fits from epoch (Some row) k is = with-fits (front_rest p.rest).count from epoch row.stage k.1 is
 
     tag-fits : (from epoch n : ℕ) (nodes : List ℕ) → IsNode from → epoch < 2 ^ 16 → n < 2 ^ 32 → AllByRecursion IsNode nodes → 1 ≤ length nodes → length nodes ≤ 8 → FrontTurnFits (front_saying (tag_sent env from epoch n nodes))
     tag-fits from epoch n nodes node early low are some few =
@@ -449,24 +508,60 @@ module _ (env : FrontEnv) (own : env.serve.place ≡ place.Front) (conn : cluste
 
     -- ---- an end
 
-    away-early : (e count epoch : ℕ) (x : FrontConn) → StageKeeps e count x → is_away epoch x ≡ true → IsEarlyAway e
-    away-early e count epoch (stage.Offering n d) k is = k.0
-    away-early e count epoch (stage.Moved n d) k is = k.0
-    away-early e count epoch _ k is = let no : false ≡ true = is in absurd cc
-
     acks : (from epoch : ℕ) → IsNumber from → epoch < 2 ^ 16 → FrontTurnFits (front_saying (ack_sent env from epoch))
     acks from epoch n early = sends place.Front (ack_sent env from epoch) ((n, bytes-message c epoch body.EndedAck tt, tt, spells c epoch body.EndedAck conn early tt tt), tt) (omega arith)
 
-    pub ended-deed : (from epoch : ℕ) (last : Final) → IsNumber from → epoch < 2 ^ 16 → Fits (front_ended env p from epoch last)
-    ended-deed from epoch last n two = ended-keeps p Fits tt env from epoch last (λ row found away again. acks from epoch n two) (λ row found away.
+    pub ended-deed : HasRoom 3 p.row → (from epoch : ℕ) (last : Final) → IsNumber from → epoch < 2 ^ 16 → EndedFits c (front_ended env p from epoch last)
+    ended-deed room from epoch last n two = ended-keeps p (EndedFits c) tt env from epoch last (λ row found away again. acks from epoch n two) (λ row found away.
         let ack = acks from epoch n two in
-        let early = away-early row.epoch.0 (front_rest p.rest).count epoch row.stage (kept-at row row.stage (found, refl)) away in (
+        let early = room-at 3 row found room in (
           record { row = (conn, tt); rest = no-rest; kept = less; few = less-few },
+          omega (arith, early),
           record { notes = ((tt, number, omega (arith, early)), (number, tt)); segments = tt; few = omega arith; gave = tt; messages = ack.messages; few_messages = ack.few_messages },
         ))
 
     -- ---- the head of the line
 
-    pub admitted-fits : (choice : FirstChoice) → IsChosen 64 choice → (given : FrontPart × FrontTurn) → front_admitted env p choice ≡ Some given → FrontKeeps c given.0 × FrontTurnFits given.1
-    admitted-fits choice chosen = admitted-keeps env p choice (λ given. FrontKeeps c given.0 × FrontTurnFits given.1) (λ row b path at target. let k = kept-at row (stage.Waiting b) at in
-        handed-fits row (serving b (front_rest p.rest).count []) path choice k.0 (fresh b (front_rest p.rest).count k.1) k.2 k.3 (subst (λ (o : Option (List ℕ)). IfSome o IsNamed) target held.rest.target) chosen)
+    pub admitted-fits : HasRoom 1 p.row → (choice : FirstChoice) → IsChosen 64 choice → (given : FrontPart × FrontTurn)
+        → front_admitted env p choice ≡ Some given
+        → FrontKeeps c given.0 × FrontTurnFits given.1
+    admitted-fits room choice chosen = admitted-keeps env p choice (λ given. FrontKeeps c given.0 × FrontTurnFits given.1) (λ row b path at target. let k = kept-at row (stage.Waiting b) at in
+        handed-fits row (serving b (front_rest p.rest).count []) path choice (room-at 1 row at.0 room) (fresh b (front_rest p.rest).count k.0) k.1 k.2
+        (subst (λ (o : Option (List ℕ)). IfSome o IsNamed) target held.rest.target) chosen)
+
+  -- ---- a connection that comes back
+
+  module _ (p : FrontPart) (held : FrontKeeps c p) where
+    -- what may have been given again is answered again
+    pub given-fits : (from epoch : ℕ) (given : Option EndpointParts) → IsNumber from → epoch < 2 ^ 16
+        → FrontTurnFits (front_saying (given_sent c from epoch given))
+    given-fits from epoch None n early = sends place.Front [] tt (omega arith)
+    given-fits from epoch (Some parts) n early = sends place.Front (given_sent c from epoch (Some parts))
+        ((n, bytes-message c epoch body.Given tt, tt, spells c epoch body.Given conn early tt tt), tt) (omega arith)
+
+    module _ (row : FrontRow) (parts : EndpointParts) (fit : IsAdoptable parts) where
+      -- it is here with the endpoint that came back
+      pub back-held : FrontKeeps c (back_part p row parts)
+      back-held = record {
+        row = (conn, (keeping-adopted parts fit, adopted-serves parts fit.valid));
+        rest = record { assigned = omega arith; asks = omega arith; tag = tt; some = λ some. absurd (omega (arith, some)); short = omega arith; target = tt };
+        kept = less p held;
+        few = less-few p held;
+      }
+
+      pub returned-fits : row.epoch.0 + 2 < 2 ^ 16 → ((path : List ℕ) → FirstFits (env.first path)) → DeedFits c (reads_on env p row parts)
+      returned-fits early answers =
+          let back : FrontKeeps c (back_part p row parts) = back-held in
+          reads-fit (back_part p row parts) back answers (returned_row parts row) (back_rest parts) (omega (arith, early)) back.rest (adopted parts) back.row.1.0 back.row.1.1
+
+-- the endpoint of an Offer that is kept
+pub kept-adoptable : (ks : List Kept) → AreHeld place.Front ks → (parts : EndpointParts) → parts_kept ks ≡ Some parts → IsAdoptable parts
+kept-adoptable [] h parts is = let no : None ≡ Some parts = is in absurd cc
+kept-adoptable (q ∷ ks) h parts is =
+    let o : ReadsOffer q.bytes parts = reads-offer q.bytes parts is in
+    let m : IsMessage o.read = is-message q.bytes o.read h.0.1 o.reads in
+    record {
+      valid = subst message.IsOfTable o.offers m.table;
+      fits = subst message.FitsFields o.offers m.fits;
+      unread = offer-read q.bytes o.read.c o.read.epoch.0 parts h.0.1 (o.reads ∙ (λ i. Ok (record o.read { body = o.offers i })));
+    }

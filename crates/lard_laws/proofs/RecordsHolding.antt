@@ -4,7 +4,7 @@ use Rattle.std.specs.FinMap as table
 use Rattle.std.specs.FinMap.{FinMap}
 use Rattle.std.specs.Ordering.{nat_cmp}
 use Rattle.std.specs.Prelude.{slice_set}
-use Rattle.lard_law_view.specs.Prelude.{BackIn, ClientBlock, Event, FrontIn, FrontState, IsFrontSound, IsNumber, IsPlaceInRange, IsRecordInRange, Machine, MayDrain, NodeState, Out, Packet, Place, Rec, Station, Turn, client_acted, file_at, front_acts, front_part, front_setting, front_step, is_client_armed, machine_told, node_at, node_gave, node_setting, node_step, packets_of, passed, segments_sent, sent_records, told_rows}
+use Rattle.lard_law_view.specs.Prelude.{BackIn, ClientBlock, Event, FrontIn, FrontState, IsFrontSound, IsNumber, IsPlaceInRange, IsRecordInRange, Machine, MayClose, NodeState, Out, Packet, Place, Rec, Station, Turn, client_acted, file_at, front_acts, front_part, front_setting, front_step, is_client_armed, machine_told, node_at, node_gave, node_setting, node_step, packets_of, passed, segments_sent, sent_records, told_rows}
 use Rattle.lard_base.specs.declared.place.Place.TheVariants as place
 use Rattle.lard_base.specs.declared.place.TimerKind.TheVariants.{Tcp}
 use Rattle.lard_rules.specs.Bounds as cluster
@@ -205,10 +205,10 @@ module _ (m : Machine) (small : m.config.stream ≤ 2 ^ 30) (files : AreNamed (f
       }))
 
   -- the front end did what its step gave; where a node is closed, another one is open
-  pub front-holds : (i : FrontIn) → MayDrain m.front i → front.InputFits i → Holds (front_acts m e own i)
+  pub front-holds : (i : FrontIn) → MayClose m.front i → front.InputFits i → Holds (front_acts m e own i)
   front-holds i may fits =
       let given_is : FrontState × Out = front_step (front_setting m) m.front i in
-      let step = front.step-fits (front_setting m) small files m.front holds.parts.sound holds.parts.front i fits in
+      let step = front.step-fits (front_setting m) small files m.front holds.parts.sound holds.parts.front i may fits in
       told-holds (record m { front = given_is.0 }) e given holds.past room own place.Front given_is.1 mine tt step.1
       (parts-wider (length m.net) (length m.net + length given_is.1.messages) m.clients given_is.0 m.nodes (omega arith)
       (record {

@@ -12,7 +12,6 @@ use Rattle.lard_law_connections.proofs.PlacesHeads.{spelled-body}
 use Rattle.lard_laws.proofs.RecordsNamed.{IsNamed}
 use Rattle.lard_history.proofs.Each.{Each, Each-weaker}
 use Rattle.lard_law_view.proofs.ByteLists.{AreBytes, bytes-16, bytes-32, bytes-append, bytes-index, each-behind}
-use Rattle.lard_message.specs.declared.kind.Kind.TheVariants as kind
 use Rattle.lard_message.specs.declared.message.Body.TheVariants as body
 use Rattle.lard_message.proofs.Fields.{bind_then, paths_again, some_same}
 use Rattle.lard_message.proofs.Whole.{kind_small, spelled_so}
@@ -159,11 +158,18 @@ in-body m h = each-behind (λ b. b < 256) (header_bytes (version_of (kind_of m.b
 body-read : (bytes : List ℕ) (m : Message) → AreBytes bytes → decoded_message bytes ≡ Ok m → AreBytes (body_bytes m.body)
 body-read bytes m h is = in-body m (subst AreBytes (sym (spelled_so bytes m (bytes-index bytes h) is).1) h)
 
--- the bytes of an Offer that were not read, and those of a Forward
+unread-read : (parts : EndpointParts) → AreBytes (parts_bytes parts) → AreBytes parts.unread
+unread-read parts all = each-behind (λ b. b < 256) (to_be_bytes w16 (length parts.unread)) parts.unread
+    (each-behind (λ b. b < 256) (parts_numbers parts) (counted_bytes parts.unread) all)
+
+-- the bytes of an Offer or a Give that were not read, and those of a Forward
 pub offer-read : (bytes : List ℕ) (c epoch : ℕ) (parts : EndpointParts) → AreBytes bytes → decoded_message bytes ≡ Ok (record { c = c; epoch = record { 0 = epoch }; body = body.Offer parts }) → AreBytes parts.unread
 offer-read bytes c epoch parts h is =
-    let all = body-read bytes (record { c = c; epoch = record { 0 = epoch }; body = body.Offer parts }) h is in
-    each-behind (λ b. b < 256) (to_be_bytes w16 (length parts.unread)) parts.unread (each-behind (λ b. b < 256) (parts_numbers parts) (counted_bytes parts.unread) all)
+    unread-read parts (body-read bytes (record { c = c; epoch = record { 0 = epoch }; body = body.Offer parts }) h is)
+
+pub give-read : (bytes : List ℕ) (c epoch : ℕ) (parts : EndpointParts) → AreBytes bytes
+    → decoded_message bytes ≡ Ok (record { c = c; epoch = record { 0 = epoch }; body = body.Give parts }) → AreBytes parts.unread
+give-read bytes c epoch parts h is = unread-read parts (body-read bytes (record { c = c; epoch = record { 0 = epoch }; body = body.Give parts }) h is)
 
 pub forward-read : (bytes : List ℕ) (c epoch : ℕ) (segment : List ℕ) → AreBytes bytes → decoded_message bytes ≡ Ok (record { c = c; epoch = record { 0 = epoch }; body = body.Forward segment }) → AreBytes segment
 forward-read bytes c epoch segment h is = body-read bytes (record { c = c; epoch = record { 0 = epoch }; body = body.Forward segment }) h is

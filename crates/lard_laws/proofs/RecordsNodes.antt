@@ -1,10 +1,10 @@
 -- What each rule of a node keeps of a connection, and that its turn is in range.
 use Rattle.std.proofs.Common.{◌≡◌, ℕ, suc, ◌+◌, ◌-◌, ◌≤◌, ◌<◌, ◌^◌, List, [], ◌∷◌, ◌++◌, length, true, Option, Some, None, IfSome, Ok, refl, ap, subst, arith, length-append}
-use Rattle.lard_law_view.specs.Prelude.{Asked, BackRow, Content, ControlBlock, Ending, EndpointParts, Final, Forwarded, IsNumber, IsRecordInRange, IsValidParts, Kept, Node, NodeDeed, NodeEnv, NodeGets, NodePart, NodeTurn, Offered, Place, Progress, Said, Stay, Tagged, Turn, Want, Work, after_timer, again_sent, all_sent, anew, ask_kept, asked_kept, asked_sent, back_endpoint, came_for, come_progress, ended_kept, ended_sent, fetch_of, gave_by, goes_on, gone, kept_after, node_begins, node_fired, node_rule, node_saying, on_segment, read_progress, reads_batch, reset_count, sent_of, serving, serving_ready_of, serving_settled, spoken, state_of, tagged, taken_sent, timed, turn_by, wants_kept, wants_sent, with_work, without, work_of}
+use Rattle.lard_law_view.specs.Prelude.{Asked, BackRow, Content, ControlBlock, Ending, EndpointParts, Final, Forwarded, IsNumber, IsRecordInRange, Kept, Node, NodeDeed, NodeEnv, NodeGets, NodePart, NodeTurn, Offered, Place, Progress, Said, Stay, Tagged, Turn, Want, Work, after_timer, again_sent, all_sent, anew, ask_kept, asked_kept, asked_sent, back_endpoint, came_for, come_progress, ended_kept, ended_sent, fetch_of, gave_by, goes_on, gone, kept_after, node_begins, node_fired, node_rule, node_saying, on_segment, read_progress, reads_batch, reset_count, sent_of, serving, serving_ready_of, serving_settled, spoken, state_of, tagged, taken_sent, timed, turn_by, wants_kept, wants_sent, with_work, without, work_of}
 use Rattle.lard_base.specs.declared.place.TimerKind.TheVariants as kind
 use Rattle.lard_rules.specs.Bounds as cluster
 use Rattle.lard_laws.proofs.RecordsCounted.{IsCounted, came-counts, tagged-counts}
-use Rattle.lard_laws.proofs.RecordsFit.{IsTold, fit-adopted, keeping-segment, keeping-timer}
+use Rattle.lard_laws.proofs.RecordsFit.{IsAdoptable, IsTold, keeping-adopted, keeping-segment, keeping-timer}
 use Rattle.lard_laws.proofs.RecordsLetters.{IsLetter, ask-says, bytes-message, ended-says, spells, taken-says}
 use Rattle.lard_laws.proofs.RecordsNamed.{AreNamed, IsNamed, contents}
 use Rattle.lard_laws.proofs.RecordsServing.{EndFits, EndKeeps, EndTells, Keeps, ready-few, ready-sent, settled-fits, settled-tells, spoken-fits, spoken-tells}
@@ -14,7 +14,6 @@ use Rattle.lard_laws.proofs.RecordsWorks as works
 use Rattle.lard_history.proofs.Each.{Each, Each-append, Each-weaker}
 use Rattle.lard_law_view.proofs.ByteLists.{AreBytes, each-all}
 use Rattle.lard_message.specs.declared.message.Body.TheVariants as body
-use Rattle.lard_message.specs.Message as message
 use Rattle.lard_message.specs.Message.{IsPath}
 use Rattle.lard_rules.proofs.NodeCases.{IsHereWith, IsInItsEpoch, KeptByNode, node-keeps, of-here}
 use Rattle.lard_rules.specs.Node.{Drops, Says, Does}
@@ -66,12 +65,6 @@ gone-early (Some row) h = h
 gone-keeps : (row : Option BackRow) (s : Option Stay) → HereKeeps (back_endpoint (gone row)) s
 gone-keeps None s = tt
 gone-keeps (Some row) s = tt
-
--- what an Offer may bring
-pub record IsAdoptable (parts : EndpointParts) : Type 0 where
-  pub valid : IsValidParts parts
-  pub fits : message.FitsFields (body.Offer parts)
-  pub unread : AreBytes parts.unread
 
 -- what comes is in range
 abbrev pub MayFit : NodeGets → Type 0
@@ -283,12 +276,9 @@ module _ (env : NodeEnv) (own : env.serve.place ≡ Node env.n) (node : IsNumber
     begins : (parts : EndpointParts) → IsAdoptable parts
         → Fits (with_work env p (taken_sent env) (goes_on env (state_of (reads_batch env true (node_begins env parts)))))
     begins parts fit =
-        let got = fit.valid.received in
-        let answered = fit.valid.answered in
-        let acked = fit.valid.acknowledged in
         let w : Work = state_of (reads_batch env true (node_begins env parts)) in
         let start : IsAtWork env own node conn early small files short 8 0 (node_begins env parts) = record {
-          service = record { notes = ((node, number, omega (arith, early)), tt); keeps = ((tt, omega (arith, got, answered), omega (arith, acked)), fit.unread, fit-adopted parts fit.valid fit.fits); over = tt };
+          service = record { notes = ((node, number, omega (arith, early)), tt); keeps = keeping-adopted parts fit; over = tt };
           batch = tt;
           few = omega arith;
           jobs = tt;

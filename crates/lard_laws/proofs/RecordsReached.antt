@@ -6,13 +6,15 @@ use Rattle.std.specs.FinMap.{get-empty}
 use Rattle.std.specs.Ordering.{nat_cmp}
 use Rattle.std.specs.Prelude.{slice_get}
 use Rattle.lard_base.proofs.Usable.{usable}
-use Rattle.lard_law_view.specs.Prelude.{BackIn, ClientBlock, Config, Event, HasRule, IsNumber, IsPlaceInRange, IsReached, IsRecordInRange, IsViewed, MAX_SEGMENT_BYTES, Machine, NodeState, Packet, Passes, Place, Rec, Station, StepFault, ToClient, Turn, bytes_in, client_aborts, client_acts, client_gets, client_goes_on, client_holds, client_injects, client_opens, client_shuts, client_takes, client_timer, client_writes, clocked, completes, config_check, conn, decoded, delivered, disk_at, drained, file_at, from_place, happens, has_other_open, is_client_armed, is_no_job, is_no_node, list_of, lose_at, lost, machine_opened, machine_start, machine_step, machine_to_client, machine_to_front, machine_wrote, no_stays, node_acts, node_at, node_gave, node_part, node_setting, node_step, nothing_kept, packet_at, part_of, passed, request, timer, timer_at, to_place, written_len}
+use Rattle.lard_law_view.specs.Prelude.{BackIn, ClientBlock, Config, Event, FrontIn, HasRule, IsNumber, IsPlaceInRange, IsReached, IsRecordInRange, IsViewed, MAX_SEGMENT_BYTES, Machine, MayClose, NodeState, Packet, Passes, Place, Rec, Station, StepFault, ToClient, Turn, bytes_in, client_aborts, client_acts, client_gets, client_goes_on, client_holds, client_injects, client_opens, client_shuts, client_takes, client_timer, client_writes, clocked, completes, config_check, conn, decoded, delivered, disk_at, drained, file_at, from_place, happens, has_other_open, is_client_armed, is_no_job, is_no_node, list_of, lose_at, lost, machine_opened, machine_start, machine_step, machine_to_client, machine_to_front, machine_wrote, no_stays, node_acts, node_at, node_gave, node_part, node_setting, node_step, nothing_kept, packet_at, part_of, passed, request, timer, timer_at, to_place, written_len}
 use Rattle.lard_base.specs.declared.event.Event.TheVariants as event
 use Rattle.lard_base.specs.declared.place.Place.TheVariants as place
 use Rattle.lard_rules.specs.declared.fault.Refusal.TheVariants.{NoJob, NoNode, WasLost}
 use Rattle.lard_rules.specs.declared.fault.StepFault.TheVariants.{Limit, Refused}
 use Rattle.lard_laws.specs.Records.{IsRunFile, IsScheduled, RecordsAreInRange}
+use Rattle.lard_law_connections.proofs.Forms.{ComesToFront}
 use Rattle.lard_law_connections.proofs.Happened.{done-happens}
+use Rattle.lard_law_connections.proofs.PlacesRuns.{may-come}
 use Rattle.lard_laws.proofs.RecordsDisks.{DisksAreShort, disks-short}
 use Rattle.lard_laws.proofs.RecordsFronts.{FrontKeeps, no-rest}
 use Rattle.lard_laws.proofs.RecordsHolding.{HasRoom, Holds, IsPacket, NodeHolds, StationKeeps, client-holds, front-holds, node-holds, passed-holds}
@@ -56,7 +58,9 @@ lost-length i [] = refl
 lost-length zero (p ∷ ps) = refl
 lost-length (suc i) (p ∷ ps) = ap suc (lost-length i ps)
 
-module _ (m : Machine) (view : IsViewed m) (small : m.config.stream ≤ 2 ^ 30) (files : AreNamed (file_at m.files)) (holds : Holds m) (room : HasRoom m.net m.journal) (disks : DisksAreShort m) where
+module _ (m : Machine) (view : IsViewed m) (small : m.config.stream ≤ 2 ^ 30) (files : AreNamed (file_at m.files)) (holds : Holds m)
+    (room : HasRoom m.net m.journal) (disks : DisksAreShort m)
+    (may : (e : Event) (comes : FrontIn) → ComesToFront m e comes → MayClose m.front comes) where
   packet-there : (k : ℕ) (p : Packet) → packet_at m.net k ≡ Some p → IsPacket p
   packet-there k p is = subst (λ (o : Option Packet). IfSome o IsPacket) is (cond_both (k == 0) None (slice_get m.net (k - 1)) (λ (o : Option Packet). IfSome o IsPacket) (λ t. tt) (λ t. got IsPacket m.net (k - 1) holds.past.packets))
 
@@ -130,26 +134,31 @@ module _ (m : Machine) (view : IsViewed m) (small : m.config.stream ≤ 2 ^ 30) 
         front-holds m small files holds room e g (rec.Got k ∷ []) mine (input.Segment c (record { 0 = x.iss }) bytes) tt
         ((kept c x there).0, h, (kept c x there).3, few)
 
-    from-place : (bytes : List ℕ) (from : Place) → IsPlaceInRange from → AreBytes bytes → AsksBy from bytes → SaysBy from bytes → Holds (from_place m k bytes from)
-    from-place bytes (place.Client c) n h asks says = to-front bytes c h says (table.get m.clients c) refl
-    from-place bytes place.Front n h asks says = passes e (rec.Got k ∷ []) g mine
-    from-place bytes (place.Node n) f h asks says = front-holds m small files holds room e g (rec.Got k ∷ []) mine (input.Message n bytes) tt (f, h, asks)
+    from-place : (bytes : List ℕ) (from : Place) → ((n : ℕ) → from ≡ place.Node n → ComesToFront m e (input.Message n bytes)) → IsPlaceInRange from
+        → AreBytes bytes → AsksBy from bytes
+        → SaysBy from bytes → Holds (from_place m k bytes from)
+    from-place bytes (place.Client c) came n h asks says = to-front bytes c h says (table.get m.clients c) refl
+    from-place bytes place.Front came n h asks says = passes e (rec.Got k ∷ []) g mine
+    from-place bytes (place.Node n) came f h asks says =
+        front-holds m small files holds room e g (rec.Got k ∷ []) mine (input.Message n bytes) (may e (input.Message n bytes) (came n refl)) (f, h, asks)
 
     to-client : (bytes : List ℕ) (c : ℕ) → AreBytes bytes → (o : Option Station) → table.get m.clients c ≡ o → Holds (machine_to_client m k bytes c o)
     to-client bytes c h None there = passes e (rec.Got k ∷ []) g mine
     to-client bytes c h (Some x) there = goes c x there e (rec.Got k ∷ []) (client_gets x.client (decoded bytes c ToClient)) g mine
         (λ n keeps. gets-fits x.client n keeps (decoded bytes c ToClient) (λ said is. bytes-decoded bytes c ToClient said is h)) (λ sized. gets-sized x.client sized (decoded bytes c ToClient))
 
-    to-place : (p : Packet) (to : Place) → IsPlaceInRange p.from → AreBytes p.bytes → MayAsk to p.from p.bytes → MaySay to p.from p.bytes → Holds (to_place m k p to)
-    to-place p place.Front f h asks says = from-place p.bytes p.from f h asks says
-    to-place p (place.Client c) f h asks says = to-client p.bytes c h (table.get m.clients c) refl
-    to-place p (place.Node n) f h asks says = node-acts e (rec.Got k ∷ []) n (back.Message p.from p.bytes) g mine (f, h) (node_at m.nodes n) refl
+    to-place : (p : Packet) → packet_at m.net k ≡ Some p → (to : Place) → p.to ≡ to → IsPlaceInRange p.from → AreBytes p.bytes → MayAsk to p.from p.bytes
+        → MaySay to p.from p.bytes
+        → Holds (to_place m k p to)
+    to-place p there place.Front goal f h asks says = from-place p.bytes p.from (λ n sender. (k, p, refl, there, sender, goal, refl)) f h asks says
+    to-place p there (place.Client c) goal f h asks says = to-client p.bytes c h (table.get m.clients c) refl
+    to-place p there (place.Node n) goal f h asks says = node-acts e (rec.Got k ∷ []) n (back.Message p.from p.bytes) g mine (f, h) (node_at m.nodes n) refl
 
     delivered-good : (o : Option Packet) → packet_at m.net k ≡ o → Good (delivered m k o)
     unfolding delivered
     delivered-good None there = tt
     delivered-good (Some p) there = let is : IsPacket p = packet-there k p there in
-        cond_both p.lost (Err (Refused (WasLost k))) (Ok (to_place m k p p.to)) Good (λ t. tt) (λ t. to-place p p.to is.0 is.1.1 is.1.2 is.1.3)
+        cond_both p.lost (Err (Refused (WasLost k))) (Ok (to_place m k p p.to)) Good (λ t. tt) (λ t. to-place p there p.to refl is.0 is.1.1 is.1.2 is.1.3)
 
   lost-good : (k : ℕ) → IsScheduled (event.Lose k) → (o : Option Packet) → Good (lost m k o)
   unfolding lost
@@ -230,7 +239,7 @@ module _ (config : Config) (files : List (List ℕ × List ℕ)) (small : config
       let first = done-happens m n e is in
       let few = few-before (length m.net) (bytes_in m.net) (length m.journal) m.answered first.0 in
       let good : Good (happens m e) = happens-good m (reached-viewed config files m on.reached) (subst (λ (c : Config). c.stream ≤ 2 ^ 30) (sym on.config_is) small) (subst (λ (fs : List (List ℕ × List ℕ)). AreNamed (file_at fs)) (sym on.files_are) named) h
-      (record { packets = few.0; records = few.1 }) (disks-short config files m on.reached few.1) e given rule in
+      (record { packets = few.0; records = few.1 }) (disks-short config files m on.reached few.1) (may-come config files m on.reached) e given rule in
       subst Good first.1 good
 
   passes-hold : (es : List Event) (m n : Machine) → IsOn m → Holds m → Each IsScheduled es → Passes m es n → Holds n

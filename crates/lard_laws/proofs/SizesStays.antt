@@ -108,7 +108,7 @@ module _ (env : NodeEnv) (x : Conn) (n u : ℕ) (past : SizeMarks) (l : Talk) (p
   pub fires-fit : ((now : SizeMarks) → Each (SaysFit fs env.serve.c x n u past now) (again_sent p))
       → Fit (Does (node_fired env p (b, s) (spoken env.serve (serving (after_timer b) s.served []) (serving_ready_of env.serve (after_timer b) (timed b)))))
   fires-fit again =
-      let sound : IsSound b = record { block = a.held.1.sound; number = a.held.1.speaks.number } in
+      let sound : IsSound b = record { block = a.held.1.sound; number = λ e. a.held.1.speaks.number } in
       let given : Ending × Turn = spoken env.serve (serving (after_timer b) s.served []) (serving_ready_of env.serve (after_timer b) (timed b)) in
       let ends : EndsHeld env.serve.c past.told [] given = fired-held env.serve past.told b sound a.held.1.not_reset a.told s.served in
       let served : HasServed s.served given.0 = spoken-served env.serve (serving (after_timer b) s.served []) (serving_ready_of env.serve (after_timer b) (timed b)) in

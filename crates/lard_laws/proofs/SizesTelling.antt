@@ -119,7 +119,7 @@ SameRecv b (ending.Over last) = Unit {0}
 
 module _ (env : ServeEnv) (o : Option Said) (w out : Stream) (s : Service) (between : IsBetween w out s.block) (quiet : IsQuiet o s.block) where
   pub sound : IsSound s.block
-  sound = record { block = between-sound w out s.block between; number = between.speaks.number }
+  sound = record { block = between-sound w out s.block between; number = λ e. between.speaks.number }
 
   pub ready : IsReady o s.block
   ready = record { sound = sound; quiet = quiet }

@@ -8,8 +8,8 @@ use Rattle.lard_laws.proofs.StepsLinking.{IsLinked, reached-linked}
 use Rattle.lard_law_view.proofs.AnyShape.{AnyShape, IsAct, SomeGift, SomeNote, SomeTimer, step-any}
 use Rattle.lard_law_view.proofs.Carried.{carried-keep}
 use Rattle.lard_law_view.proofs.Heads.{ActsAt}
-use Rattle.lard_law_view.proofs.Saying.{GaveAt, NotedAt}
-use Rattle.lard_law_view.proofs.Shapes.{IsPut, NamesNobody}
+use Rattle.lard_law_view.proofs.Saying.{GaveAt, NamesNobody, NotedAt}
+use Rattle.lard_law_view.proofs.Shapes.{IsPut}
 use Rattle.lard_law_view.proofs.Timers.{IsTimerAt}
 use Rattle.lard_history.proofs.Acting.{IsActing, IsAt, IsInside, acting-lawful, comes-acting, named-acting, placeless-acts}
 use Rattle.lard_history.proofs.Counts.{last_event-append}

@@ -18,7 +18,8 @@ use Rattle.lard_law_view.proofs.Fine.{IsFine, IsItsOwn, fine}
 use Rattle.lard_law_view.proofs.Frames.{IsAtMachine, IsHeadAt, KeepsAt, Owed, fronts-leave, nodes-leave}
 use Rattle.lard_law_view.proofs.Guarded.{both, weaker}
 use Rattle.lard_law_view.proofs.Rows.{grown-told}
-use Rattle.lard_law_view.proofs.Saying.{GaveAt, NotedAt}
+use Rattle.lard_law_view.proofs.Saying.{GaveAt, NotedIn, in-kind}
+use Rattle.lard_law_view.proofs.Turned.{notes-in}
 use Rattle.lard_law_view.proofs.Timers.{timer_rows-same}
 use Rattle.lard_history.proofs.Each.{Each, Each-append, Each-weaker}
 use Rattle.lard_history.proofs.Lifting.{fold-own}
@@ -28,7 +29,7 @@ use Rattle.lard_journal.specs.declared.rec.Rec.TheVariants as rec
 use Rattle.lard_law_view.proofs.TimerChanges.{AreOthers, Exactly, IsStill, Still, all-both, all-change, changes, exactly-both, exactly-changes, exactly-none, kinds-change, number-others, others-both, place-is, place-others, step-changes, still-behind, still-rows, still-seen, still-sents, timer-is-own}
 use Rattle.lard_law_view.proofs.OwnRecords.{behind}
 use Rattle.lard_law_view.proofs.OfKinds as of-note
-use Rattle.lard_law_view.proofs.RecordKinds.{IsNote}
+use Rattle.lard_law_view.proofs.RecordKinds.{IsNote, any-kind, kind_of}
 
 -- ---- records of no timer
 
@@ -37,14 +38,14 @@ note-stays (rec.Armed p d kind) h = absurd h
 note-stays (rec.Cleared p d kind) h = absurd h
 note-stays _ h = refl
 
-still-note : (place : Place) (c : ℕ) (r : Rec) → NotedAt place c r → is_change r ≡ false
-still-note place c r h = note-stays r (of-note.noted place c r h)
+still-note : (place : Place) (c : ℕ) (r : Rec) → NotedIn place c r → is_change r ≡ false
+still-note place c r h = note-stays r (any-kind place (kind_of r) (in-kind place c r h))
 
 still-gave : (place : Place) (c : ℕ) (r : Rec) → GaveAt place c r → is_change r ≡ false
 still-gave = of-note.of-gift (λ r. is_change r ≡ false) (λ p d epoch. refl)
 
-still-notes : (place : Place) (c : ℕ) (rs : List Rec) → Each (NotedAt place c) rs → Still rs
-still-notes place c rs e = Each-weaker (NotedAt place c) (λ r. is_change r ≡ false) (still-note place c) rs e
+still-notes : (place : Place) (c : ℕ) (rs : List Rec) → Each (NotedIn place c) rs → Still rs
+still-notes place c rs e = Each-weaker (NotedIn place c) (λ r. is_change r ≡ false) (still-note place c) rs e
 
 still-gaves : (place : Place) (c : ℕ) (rs : List Rec) → Each (GaveAt place c) rs → Still rs
 still-gaves place c rs e = Each-weaker (GaveAt place c) (λ r. is_change r ≡ false) (still-gave place c) rs e
@@ -159,7 +160,7 @@ module _ (x : Conn) (v : Move) (is : IsPlain x v) (own : IsItsOwn x v) where
       let spoken : List Rec = v.said.notes ++ segments ++ v.said.gave ++ messages in
       let none : Still spoken =
       still-both (v.said.notes ++ segments ++ v.said.gave) messages
-      (still-both (v.said.notes ++ segments) v.said.gave (still-both v.said.notes segments (still-notes v.place x.c v.said.notes own.notes) (still-sends v.place v.said.segments))
+      (still-both (v.said.notes ++ segments) v.said.gave (still-both v.said.notes segments (still-notes v.place x.c v.said.notes (notes-in v.place x.c v.said.notes own.notes)) (still-sends v.place v.said.segments))
       (still-gaves v.place x.c v.said.gave own.gave))
       (still-sends v.place v.said.messages) in
       grown-told step false x v ∙ ap (λ b. fold step b (rows_of x v)) (still-seen p x.c kind (told x p kind) v.heads is.heads)

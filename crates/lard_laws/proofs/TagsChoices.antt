@@ -3,6 +3,7 @@ use Rattle.std.proofs.Common.{◌≡◌, ℕ, ◌+◌, ◌==◌, true, false, Li
 use Rattle.std.proofs.lemmas.Bool.{and_parts}
 use Rattle.std.specs.FinMap as table
 use Rattle.lard_law_view.specs.Prelude.{AreServedByNodes, Ask, Books, Came, Config, Conn, Did, DispatchStanding, Dispatcher, Event, Front, FrontConn, FrontPart, FrontRest, FrontRow, IsDispatcherSound, IsFrontSound, IsNode, IsRowSound, IsStageSound, Kept, Letter, Machine, Millis, Node, Packet, Seen, SpellsMessage, all_choices, ask_of, batch_over, conn, decoded_message, dispatch_standing, front_part, front_setting, is_row_at, is_with, later_choice_at, letter_of, machine_step, machine_told, net_of, packet_at, part_of, seen_on, set_of, shared_with, touched}
+use Rattle.lard_rules.specs.FrontSound.{OpenNodes, open_nodes_of}
 use Rattle.lard_base.specs.declared.event.Event.TheVariants as event
 use Rattle.lard_laws.proofs.AsksComing.{Delivers, IsRow, step-comes}
 use Rattle.lard_laws.proofs.AsksFilling.{asked-is, did, seen-is}
@@ -37,19 +38,23 @@ home-there d sound c n is = go (table.get d.books.loads.standings c) (sound.at_n
   go (Some s) h e = let found : Some s.home ≡ Some n = e in let same : s.home ≡ n = cc in subst (IsNode d.config.nodes) same h
 
 -- the node with which a connection is, is its home
-stage-home : (epoch n e : ℕ) (rest : Option FrontRest) (kept : List Kept) (at : DispatchStanding) (st : FrontConn) → IsStageSound epoch rest kept at st → is_with n e st ≡ true → at.home ≡ Some n
-stage-home epoch n e rest kept at (stage.Offering node d) h is = ap (λ (a : DispatchStanding). a.home) h ∙ ap Some (eqb-true node n (and_parts (node == n) (d.0 == e) is).0)
-stage-home epoch n e rest kept at (stage.Moved node d) h is = ap (λ (a : DispatchStanding). a.home) h ∙ ap Some (eqb-true node n (and_parts (node == n) (d.0 == e) is).0)
-stage-home epoch n e rest kept at _ h is = let no : false ≡ true = is in absurd cc
+stage-home : (nodes : OpenNodes) (epoch n e : ℕ) (rest : Option FrontRest) (kept : List Kept) (at : DispatchStanding) (st : FrontConn)
+    → IsStageSound nodes epoch rest kept at st → is_with n e st ≡ true → at.home ≡ Some n
+stage-home nodes epoch n e rest kept at (stage.Offering node d) h is =
+    ap (λ (a : DispatchStanding). a.home) h.stands ∙ ap Some (eqb-true node n (and_parts (node == n) (d.0 == e) is).0)
+stage-home nodes epoch n e rest kept at (stage.Moved node d) h is =
+    ap (λ (a : DispatchStanding). a.home) h.stands ∙ ap Some (eqb-true node n (and_parts (node == n) (d.0 == e) is).0)
+stage-home nodes epoch n e rest kept at _ h is = let no : false ≡ true = is in absurd cc
 
-row-home : (n e : ℕ) (rest : Option FrontRest) (kept : List Kept) (at : DispatchStanding) (o : Option FrontRow) → IsRowSound rest kept at o → is_row_at n e o ≡ true → at.home ≡ Some n
-row-home n e rest kept at None h is = let no : false ≡ true = is in absurd cc
-row-home n e rest kept at (Some row) h is = stage-home row.epoch.0 n e rest kept at row.stage h is
+row-home : (nodes : OpenNodes) (n e : ℕ) (rest : Option FrontRest) (kept : List Kept) (at : DispatchStanding) (o : Option FrontRow)
+    → IsRowSound nodes rest kept at o → is_row_at n e o ≡ true → at.home ≡ Some n
+row-home nodes n e rest kept at None h is = let no : false ≡ true = is in absurd cc
+row-home nodes n e rest kept at (Some row) h is = stage-home nodes row.epoch.0 n e rest kept at row.stage h is
 
 module _ (m : Machine) (sound : IsFrontSound m.front) where
   -- the node with which the front end has a connection is there
   pub with-there : (c n e : ℕ) → is_row_at n e (front_part m.front c).row ≡ true → IsNode m.front.dispatch.config.nodes n
-  with-there c n e is = home-there m.front.dispatch sound.books c n (row-home n e (front_part m.front c).rest (front_part m.front c).kept (dispatch_standing m.front.dispatch c) (front_part m.front c).row (sound.each c) is)
+  with-there c n e is = home-there m.front.dispatch sound.books c n (row-home (open_nodes_of m.front.dispatch) n e (front_part m.front c).rest (front_part m.front c).kept (dispatch_standing m.front.dispatch c) (front_part m.front c).row (sound.each c) is)
 
 -- ---- the step in which an Ask comes
 

@@ -1,9 +1,10 @@
 -- What the front end does leaves the last Tag with nodes that are there, and with as many as requests wait for one.
 use Rattle.std.proofs.Common.{◌≡◌, ◌≤◌, ◌+◌, ◌++◌, ◌==◌, ◌&&◌, ℕ, true, false, List, [], length, map, Option, Some, None, refl, sym, ap, ◌∙◌, subst, arith, eqb-true, inr, ⊎_elim}
 use Rattle.std.proofs.lemmas.Bool.{and_parts}
-use Rattle.lard_law_view.specs.Prelude.{Ask, Conn, ControlBlock, Did, Ending, FilesAt, Front, FrontConn, FrontDeed, FrontEnv, FrontGets, FrontPart, FrontRest, FrontRow, Move, Node, Row, Said, Seen, Service, assigns, front_does, front_ends, front_fired, front_rest, front_rests, front_rule, grown, is_row_at, is_with, next_epoch, offering, packet_seen, rows_of, serving, serving_settled, spoken, tale_at}
+use Rattle.lard_law_view.specs.Prelude.{Ask, Conn, ControlBlock, Did, Ending, EndpointParts, Epoch, FilesAt, Front, FrontConn, FrontDeed, FrontEnv, FrontGets, FrontPart, FrontRest, FrontRow, Move, Node, Place, Row, Said, Seen, Service, assigns, back_part, back_rest, front_does, front_ends, front_fired, front_rest, front_rests, front_rule, given_sent, grown, is_row_at, is_with, next_epoch, offering, packet_seen, returned_row, rows_of, serving, serving_settled, spoken, tale_at}
 use Rattle.lard_laws.proofs.AsksMoving.{Fills}
-use Rattle.lard_law_connections.specs.Places.{ArePast, IsPast, Sits, owning}
+use Rattle.lard_laws.proofs.FrontReturning.{AreWithin, IsWithin, away-within, past-within, within-later}
+use Rattle.lard_law_connections.specs.Places.{Sits, owning}
 use Rattle.lard_law_connections.proofs.PlacesFrontRules.{has-each}
 use Rattle.lard_laws.specs.Tags.{FitsAt, NamesNodes, TagsAre}
 use Rattle.lard_laws.proofs.TagsChoices.{Names}
@@ -15,7 +16,7 @@ use Rattle.lard_history.proofs.Each.{Each}
 use Rattle.lard_message.specs.declared.message.Body.TheVariants as body
 use Rattle.lard_rules.specs.declared.places.Ending.TheVariants as ending
 use Rattle.lard_law_view.proofs.EachFront.{FrontComes, HasAsk, admission}
-use Rattle.lard_rules.proofs.FrontCases.{IsInStage, KeptByFront, KeptBySegment, begun_row, begun_service, front-keeps, heard_service, of-stage, waiting_service}
+use Rattle.lard_rules.proofs.FrontCases.{IsAwayWith, IsInStage, KeptByFront, KeptByReturn, KeptBySegment, begun_row, begun_service, front-keeps, heard_service, of-stage, waiting_service}
 
 -- the nodes of the Tag of what is kept, if anything is
 tags-of : (N : ℕ → Type 0) (o : Option FrontRest) → ((r : FrontRest) → o ≡ Some r → Each N r.tag) → Each N (front_rest o).tag
@@ -43,33 +44,44 @@ module _ (N : ℕ → Type 0) (files : FilesAt) (x : Conn) (facts : Facts files 
   at-none : (f : FrontPart) → ((n e : ℕ) → is_row_at n e f.row ≡ true → ⊥) → (n : ℕ) → FitsAt files f n (x.part.nodes n)
   at-none f none n e b s r at row stay rest answered = absurd (none n e at)
 
-  -- no node has it
-  past-none : (f : FrontPart) (d : ℕ) → ArePast d x.part.nodes → (n : ℕ) → FitsAt files f n (x.part.nodes n)
-  past-none f d past n e b s r at row stay rest answered = absurd (subst (IsPast d) row (past n)).1
-
   -- ---- the end of a turn
 
-  module _ (row : FrontRow) (rest : FrontRest) (tags : Each N rest.tag) where
-    held-rests : (e : Ending) → PartFits (front_rests p row rest stage.Held e)
-    held-rests (ending.Here b count) = (one-tag N (record rest { count = count }) tags, at-none (front_rests p row rest stage.Held (ending.Here b count)) (λ n e is. let no : false ≡ true = is in absurd cc))
-    held-rests (ending.Over last) = ((λ r is. let no : None ≡ Some r = is in absurd cc), at-none (front_rests p row rest stage.Held (ending.Over last)) (λ n e is. let no : false ≡ true = is in absurd cc))
+  nowhere : (n e : ℕ) → false ≡ true → ⊥
+  nowhere n e is = cc
 
-    waiting-rests : (e : Ending) → PartFits (front_rests p row rest stage.Waiting e)
-    waiting-rests (ending.Here b count) = (one-tag N (record rest { count = count }) tags, at-none (front_rests p row rest stage.Waiting (ending.Here b count)) (λ n e is. let no : false ≡ true = is in absurd cc))
-    waiting-rests (ending.Over last) = ((λ r is. let no : None ≡ Some r = is in absurd cc), at-none (front_rests p row rest stage.Waiting (ending.Over last)) (λ n e is. let no : false ≡ true = is in absurd cc))
+  none-kept : (r : FrontRest) → None ≡ Some r → Each N r.tag
+  none-kept r is = absurd cc
+
+  module _ (q : FrontPart) (row : FrontRow) (rest : FrontRest) (tags : Each N rest.tag) where
+    held-rests : (e : Ending) → PartFits (front_rests q row rest stage.Held e)
+    held-rests (ending.Here b count) = (one-tag N (record rest { count = count }) tags, at-none (front_rests q row rest stage.Held (ending.Here b count)) nowhere)
+    held-rests (ending.Over last) = (none-kept, at-none (front_rests q row rest stage.Held (ending.Over last)) nowhere)
+
+    waiting-rests : (e : Ending) → PartFits (front_rests q row rest stage.Waiting e)
+    waiting-rests (ending.Here b count) = (one-tag N (record rest { count = count }) tags, at-none (front_rests q row rest stage.Waiting (ending.Here b count)) nowhere)
+    waiting-rests (ending.Over last) = (none-kept, at-none (front_rests q row rest stage.Waiting (ending.Over last)) nowhere)
 
   mine : Each N (front_rest p.rest).tag
   mine = tags-of N p.rest h.nodes
 
-  offering-fits : (env : FrontEnv) (row : FrontRow) (w : Service) (path : List ℕ) (node d : ℕ) → ArePast d x.part.nodes → PartFits (offering env row w path node)
-  offering-fits env row w path node d past = (one-tag N (record { count = w.count; asks = 0; tag = []; assigned = w.count + 1; target = None }) tt, past-none (offering env row w path node) d past)
+  -- it is offered in an epoch that no node knows yet
+  offering-fits : (env : FrontEnv) (row : FrontRow) (w : Service) (path : List ℕ) (node : ℕ) → AreWithin row.epoch.0 x.part.nodes
+      → PartFits (offering env row w path node)
+  offering-fits env row w path node within = (
+    one-tag N (record { count = w.count; asks = 0; tag = []; assigned = w.count + 1; target = None }) tt,
+    λ n e b s r at here stay rest answered.
+        let same : row.epoch.0 + 1 ≡ e = eqb-true (row.epoch.0 + 1) e (and_parts (node == n) ((row.epoch.0 + 1) == e) at).1 in
+        let most : e ≤ row.epoch.0 = subst (IsWithin row.epoch.0) here (within n) in
+        absurd (omega (arith, same, most)),
+  )
 
   -- no node has one that is held or waits
-  past-held : (row : FrontRow) (b : ControlBlock) → IsInStage p row (stage.Held b) → ArePast row.epoch.0 x.part.nodes
-  past-held row b at = (of-stage (Sits (owning (tale_at x)) x.part.nodes) p row (stage.Held b) at facts.placed.sits).0.1.1
+  past-held : (row : FrontRow) (b : ControlBlock) → IsInStage p row (stage.Held b) → AreWithin row.epoch.0 x.part.nodes
+  past-held row b at = past-within row.epoch.0 x.part.nodes (of-stage (Sits (owning (tale_at x)) x.part.nodes) p row (stage.Held b) at facts.placed.sits).0.1.1
 
-  past-waiting : (row : FrontRow) (b : ControlBlock) → IsInStage p row (stage.Waiting b) → ArePast row.epoch.0 x.part.nodes
-  past-waiting row b at = (of-stage (Sits (owning (tale_at x)) x.part.nodes) p row (stage.Waiting b) at facts.placed.sits).0.1.1
+  past-waiting : (row : FrontRow) (b : ControlBlock) → IsInStage p row (stage.Waiting b) → AreWithin row.epoch.0 x.part.nodes
+  past-waiting row b at = past-within row.epoch.0 x.part.nodes
+      (of-stage (Sits (owning (tale_at x)) x.part.nodes) p row (stage.Waiting b) at facts.placed.sits).0.1.1
 
   -- ---- an Ask
 
@@ -123,15 +135,29 @@ module _ (N : ℕ → Type 0) (files : FilesAt) (x : Conn) (facts : Facts files 
     by-segment : (bytes : List ℕ) (s : Said) → KeptBySegment env p bytes s (λ w o. Unit {0}) Fit
     by-segment bytes s = record {
       drops = λ fills names. tt;
-      begins = λ none plain fills names. held-rests begun_row (front_rest None) tt (spoken env.serve (begun_service env s) []).0;
+      begins = λ none plain fills names. held-rests p begun_row (front_rest None) tt (spoken env.serve (begun_service env s) []).0;
       reads = λ row b at. tt;
-      holds = λ row b w at r fills names. held-rests row (front_rest p.rest) mine (serving_settled env.serve w).0;
-      hands = λ row b w path choice at r is fills names. offering-fits env row w path choice.node row.epoch.0 (past-held row b at);
-      waits = λ row b w path at r is fills names. waiting-rests row (record (front_rest p.rest) { target = Some path }) mine (spoken env.serve (waiting_service env w) []).0;
-      stays = λ row b at fills names. waiting-rests row (front_rest p.rest) mine (spoken env.serve (heard_service p b s) []).0;
+      holds = λ row b w at r fills names. held-rests p row (front_rest p.rest) mine (serving_settled env.serve w).0;
+      hands = λ row b w path choice at r is fills names. offering-fits env row w path choice.node (past-held row b at);
+      waits = λ row b w path at r is fills names. waiting-rests p row (record (front_rest p.rest) { target = Some path }) mine
+          (spoken env.serve (waiting_service env w) []).0;
+      stays = λ row b at fills names. waiting-rests p row (front_rest p.rest) mine (spoken env.serve (heard_service p b s) []).0;
       forwards = λ row n e at fills names. tt;
       words = λ row last at fills names. tt;
     }
+
+    by-return : (said : List (Place × List ℕ)) (n : ℕ) (from : Epoch) (row : FrontRow) (parts : EndpointParts) → IsAwayWith p row n from
+        → KeptByReturn env p said row parts (λ w o. Unit {0}) Fit
+    by-return said n from row parts at =
+        let q : FrontPart = back_part p row parts in
+        let back : FrontRow = returned_row parts row in record {
+          reads = tt;
+          holds = λ w r fills names. held-rests q back (back_rest parts) tt (serving_settled env.serve w).0;
+          hands = λ w path choice r is fills names. offering-fits env back w path choice.node
+              (within-later row.epoch.0 x.part.nodes (away-within x facts.placed row n from at));
+          waits = λ w path r is fills names. waiting-rests q back (record (back_rest parts) { target = Some path }) tt
+              (spoken env.serve (waiting_service env w) []).0;
+        }
 
     by-rules : KeptByFront env p (FrontComes x env heads) (λ w o. Unit {0}) Fit
     by-rules = record {
@@ -139,8 +165,8 @@ module _ (N : ℕ → Type 0) (files : FilesAt) (x : Conn) (facts : Facts files 
       hears = λ bytes s m. by-segment bytes s;
       fires = λ m. record {
         drops = λ fills names. tt;
-        holds = λ row b at fills names. held-rests row (front_rest p.rest) mine (front_fired env (front_rest p.rest) b).0;
-        stays = λ row b at fills names. waiting-rests row (front_rest p.rest) mine (front_fired env (front_rest p.rest) b).0;
+        holds = λ row b at fills names. held-rests p row (front_rest p.rest) mine (front_fired env (front_rest p.rest) b).0;
+        stays = λ row b at fills names. waiting-rests p row (front_rest p.rest) mine (front_fired env (front_rest p.rest) b).0;
         resends = λ row n e at fills names. tt;
       };
       takes = λ from epoch m row node d at same fills names.
@@ -149,8 +175,11 @@ module _ (N : ℕ → Type 0) (files : FilesAt) (x : Conn) (facts : Facts files 
       assigns_next = assigned-fits;
       ends_again = λ n epoch last m row found away again fills names. tt;
       ends = λ n epoch last m row found away fills names.
-          ((λ r is. let no : None ≡ Some r = is in absurd cc), at-none (front_ends env p n epoch last row (next_epoch row)).part (λ m e is. let no : false ≡ true = is in absurd cc));
-      admits = λ choice made met row b path at target fills names. offering-fits env row (serving b (front_rest p.rest).count []) path choice.node row.epoch.0 (past-waiting row b at);
+          (none-kept, at-none (front_ends env p n epoch last row (next_epoch row)).part nowhere);
+      gives_again = λ n epoch parts m row found past fills names. tt;
+      returns = λ n epoch given m row parts at. by-return (given_sent env.serve.c n epoch given) n at.from row parts at.at;
+      admits = λ choice made met row b path at target fills names. offering-fits env row (serving b (front_rest p.rest).count []) path choice.node
+          (past-waiting row b at);
     }
 
     front-move : (d : FrontDeed) → DeedFits d → NamesNodes N files (grown x (front_does x heads d))

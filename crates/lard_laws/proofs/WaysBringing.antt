@@ -8,7 +8,7 @@ use Rattle.lard_base.specs.declared.event.Event.TheVariants as event
 use Rattle.lard_law_connections.proofs.Calm.{first_rows, last_rows, told-journal}
 use Rattle.lard_law_connections.proofs.Happened.{deliver-is}
 use Rattle.lard_law_view.proofs.AnyShape.{SomeNote, some-noted}
-use Rattle.lard_law_view.proofs.Saying.{GaveAt, NamesAll, NotedAt, note-of}
+use Rattle.lard_law_view.proofs.Saying.{GaveAt, NamesAll, NotedIn, in-of}
 use Rattle.lard_law_view.proofs.Timers.{IsTimerAt}
 use Rattle.lard_laws.specs.WaysContents.{MayBring, MustBring, SendsFile}
 use Rattle.lard_laws.proofs.WaysQuiet.{IsNone, SentNone}
@@ -87,7 +87,7 @@ others-plain k from (s ∷ ss) names = (one from names, others-plain (k + 1) fro
 same-row : (a b : Rec) → Row a ≡ Row b → a ≡ b
 same-row a b e = cc
 
-pub noted-has : (place : Place) (c : ℕ) (net : List Packet) (r : Rec) (rs : List Rec) → Each (NotedAt place c) rs → Has (Row r) (seen_on c net rs) → Has r rs
+pub noted-has : (place : Place) (c : ℕ) (net : List Packet) (r : Rec) (rs : List Rec) → Each (NotedIn place c) rs → Has (Row r) (seen_on c net rs) → Has r rs
 noted-has place c net r [] notes h = absurd h
 noted-has place c net r (x ∷ xs) notes h =
     let later : Has (Row r) (seen_on c (net_step net x) xs) → Has r xs = λ k. noted-has place c (net_step net x) r xs notes.1 k in
@@ -97,7 +97,7 @@ noted-has place c net r (x ∷ xs) notes h =
     ⊎_elim (λ (e : Row x ≡ Row r). inl (same-row x r e)) (λ (k : Has (Row r) (seen_on c (net_step net x) xs)). inr (later k))
     (subst (λ (l : List Seen). Has (Row r) (l ++ seen_on c (net_step net x) xs)) row h))
     (λ (of : (whose x ≡ None) × ((q : ℕ) (net : List Packet) → seen_of q net x ≡ [])). inr (later (subst (λ (l : List Seen). Has (Row r) (l ++ seen_on c (net_step net x) xs)) (of.1 c net) h)))
-    (note-of place c x notes.0)
+    (in-of place c x notes.0)
 
 -- ---- the records of a step
 

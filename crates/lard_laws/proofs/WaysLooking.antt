@@ -45,7 +45,8 @@ waits-kept files o = record {
 
 -- ---- what is in hand
 
-module _ (env : ServeEnv) (m : WayMarks) where
+-- It began with these marks, and has those behind what it noted first: that it is back, or nothing.
+module _ (env : ServeEnv) (begun m : WayMarks) where
   abbrev files : FilesAt
   files = env.files
 
@@ -54,8 +55,8 @@ module _ (env : ServeEnv) (m : WayMarks) where
 
   -- all that was assigned is answered, and nothing else for a file
   pub record Looks (s : Service) : Type 0 where
-    pub noted_so : Rightly files m s.notes
-    pub told : marked m s.notes ≡ record m { served = s.count }
+    pub noted_so : Rightly files begun s.notes
+    pub told : marked begun s.notes ≡ record m { served = s.count }
     pub answered : IsAllAnswered files (record m { served = s.count })
 
   abbrev pub LooksAt : Reading → Type 0
@@ -67,8 +68,8 @@ module _ (env : ServeEnv) (m : WayMarks) where
 
   same-looks : (s t : Service) → t.notes ≡ s.notes → t.count ≡ s.count → Looks s → Looks t
   same-looks s t notes count h = record {
-    noted_so = subst (Rightly files m) (sym notes) h.noted_so;
-    told = ap (marked m) notes ∙ h.told ∙ ap (λ (n : ℕ). record m { served = n }) (sym count);
+    noted_so = subst (Rightly files begun) (sym notes) h.noted_so;
+    told = ap (marked begun) notes ∙ h.told ∙ ap (λ (n : ℕ). record m { served = n }) (sym count);
     answered = subst (λ (n : ℕ). IsAllAnswered files (record m { served = n })) (sym count) h.answered;
   }
 
@@ -88,13 +89,13 @@ module _ (env : ServeEnv) (m : WayMarks) where
       let may : AnswersNextAt files (record m { served = s.count }) env.place Own = subst (AnswersBy files (record m { served = s.count }) env.place Own) (sym got) (as-own (good_path files v) none) in
       cond_both (nat_lt env.stream total) (passed_over env total t) (queued env Own v bytes t) Looks
       (λ e. record {
-        noted_so = rightly-append files m s.notes (rec.Reset env.place env.c total ∷ []) h.noted_so (tt, tt);
-        told = marked-append m s.notes (rec.Reset env.place env.c total ∷ []) ∙ h.told;
+        noted_so = rightly-append files begun s.notes (rec.Reset env.place env.c total ∷ []) h.noted_so (tt, tt);
+        told = marked-append begun s.notes (rec.Reset env.place env.c total ∷ []) ∙ h.told;
         answered = h.answered;
       })
       (λ e. record {
-        noted_so = rightly-append files m s.notes (rec.Served env.place env.c (s.count + 1) (answer_code files v) (length bytes) Own ∷ []) h.noted_so (subst (λ (q : WayMarks). AnswersNextAt files q env.place Own) (sym h.told) may, tt);
-        told = marked-append m s.notes (rec.Served env.place env.c (s.count + 1) (answer_code files v) (length bytes) Own ∷ []) ∙ ap (λ (q : WayMarks). record q { served = q.served + 1 }) h.told;
+        noted_so = rightly-append files begun s.notes (rec.Served env.place env.c (s.count + 1) (answer_code files v) (length bytes) Own ∷ []) h.noted_so (subst (λ (q : WayMarks). AnswersNextAt files q env.place Own) (sym h.told) may, tt);
+        told = marked-append begun s.notes (rec.Served env.place env.c (s.count + 1) (answer_code files v) (length bytes) Own ∷ []) ∙ ap (λ (q : WayMarks). record q { served = q.served + 1 }) h.told;
         answered = (
           h.answered.0
               ∙ sym (ap (good_paths files) next_is ∙ good-append files (take s.count all_verdicts) (v ∷ []) ∙ ap (λ (l : List (List ℕ)). good_paths files (take s.count all_verdicts) ++ l) (lone (good_path files v) none)
@@ -112,7 +113,7 @@ module _ (env : ServeEnv) (m : WayMarks) where
         lone : (o : Option (List ℕ)) → o ≡ None → and_path o [] ≡ []
         lone o e = ap (λ (x : Option (List ℕ)). and_path x []) e
 
-module _ (env : ServeEnv) (m : WayMarks) (w out : Stream) (vs : List Verdict) (wrote : m.wrote ≡ w.bytes) (most : env.stream ≤ 2 ^ 30) where
+module _ (env : ServeEnv) (begun m : WayMarks) (w out : Stream) (vs : List Verdict) (wrote : m.wrote ≡ w.bytes) (most : env.stream ≤ 2 ^ 30) where
   abbrev its_files : FilesAt
   its_files = env.files
 
@@ -120,12 +121,12 @@ module _ (env : ServeEnv) (m : WayMarks) (w out : Stream) (vs : List Verdict) (w
   It x = IsOn env w out vs most x
 
   abbrev Its : Reading → Type 0
-  Its x = LooksAt env m x
+  Its x = LooksAt env begun m x
 
   abbrev StepIts : Step Reading → Type 0
-  StepIts s = StepLooks env m s
+  StepIts s = StepLooks env begun m s
 
-  fronts-of : (b : ControlBlock) (before pend : List Verdict) → HasReadPending w b before pend → IsPrefix (before ++ pend) (all_verdicts env m)
+  fronts-of : (b : ControlBlock) (before pend : List Verdict) → HasReadPending w b before pend → IsPrefix (before ++ pend) (all_verdicts env begun m)
   fronts-of b before pend read = subst (λ (q : List ℕ). IsPrefix (before ++ pend) (verdicts q)) (append-nil w.bytes ∙ sym wrote) (read.fronts [])
 
   waits-none : (x : Reading) → x.target ≡ None → (unread : List ℕ) → WaitsForNext its_files unread x.target
@@ -140,7 +141,7 @@ module _ (env : ServeEnv) (m : WayMarks) (w out : Stream) (vs : List Verdict) (w
   found-looks x h may k (found.More skip) e =
       let t : Service = serving_consumed skip x.service in
       let same = ended-same t in
-      (same-looks env m x.service (ended_at_fin t) same.0 same.1 k.0, waits-none x h.1 _)
+      (same-looks env begun m x.service (ended_at_fin t) same.0 same.1 k.0, waits-none x h.1 _)
   found-looks x h may k (found.Block skip len) e = by_path (good_path its_files (block_at x skip len)) refl where
     v : Verdict
     v = block_at x skip len
@@ -148,13 +149,13 @@ module _ (env : ServeEnv) (m : WayMarks) (w out : Stream) (vs : List Verdict) (w
     by_path : (o : Option (List ℕ)) → good_path its_files (block_at x skip len) ≡ o → StepIts (reads_block env x (skip + len) (block_at x skip len) o)
     by_path None none =
         let read = block-read w x.service.block h.0.vs_now h.0.between.hears may.keeps may.read skip len e in
-        (answered-looks env m (block_at x skip len) none (skip + len) x.service h.0.vs_now h.0.counted (fronts-of (consuming x.service.block (skip + len)) h.0.vs_now (block_at x skip len ∷ []) read) k.0, waits-none x h.1 _)
+        (answered-looks env begun m (block_at x skip len) none (skip + len) x.service h.0.vs_now h.0.counted (fronts-of (consuming x.service.block (skip + len)) h.0.vs_now (block_at x skip len ∷ []) read) k.0, waits-none x h.1 _)
     by_path (Some path) good = cond_both (may_freeze x.service.block) (record x { target = Some path }) x Its
         (λ t. (k.0, record { first = block_at x skip len; others = _; are = verdicts-block x.service.block.recv.unread skip len e; good = good })) (λ t. k)
   found-looks x h may k (found.TooLong skip) e =
       let all = length x.service.block.recv.unread in
       let read = long-read w x.service.block h.0.vs_now h.0.between.hears may.keeps may.read skip all e in
-      (answered-looks env m (Fault code.FieldsTooLarge) refl all x.service h.0.vs_now h.0.counted (fronts-of (consuming x.service.block all) h.0.vs_now (Fault code.FieldsTooLarge ∷ []) read) k.0, waits-none x h.1 _)
+      (answered-looks env begun m (Fault code.FieldsTooLarge) refl all x.service h.0.vs_now h.0.counted (fronts-of (consuming x.service.block all) h.0.vs_now (Fault code.FieldsTooLarge ∷ []) read) k.0, waits-none x h.1 _)
 
   turn-looks : (x : Reading) → It x → Its x → StepIts (reading_turn env x)
   turn-looks x h k = cond_both (may_read x.service) (reads_found env x (cut_of x.service.block.recv.unread)) (Done x) StepIts
@@ -168,5 +169,5 @@ module _ (env : ServeEnv) (m : WayMarks) (w out : Stream) (vs : List Verdict) (w
     go (More y) h k later = later y h k
     go (Done y) h k later = k
 
-  pub reads-look : (s : Service) → So env w out vs s [] → Looks env m s → Its (front_reads env (record { service = s; target = None }))
+  pub reads-look : (s : Service) → So env w out vs s [] → Looks env begun m s → Its (front_reads env (record { service = s; target = None }))
   reads-look s h k = stops-on (reading_left (record { service = s; target = None }) + 1) (record { service = s; target = None }) (h, refl) (k, tt)

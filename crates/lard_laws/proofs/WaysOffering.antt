@@ -2,12 +2,13 @@
 use Rattle.std.proofs.Common.{◌≡◌, ◌≤◌, ◌<◌, ◌^◌, ◌⊎◌, ◌==◌, ℕ, true, List, [], ◌∷◌, ◌++◌, Option, Some, None, ⊎_elim, refl, sym, ap, ◌∙◌, subst, arith, eq-eqb}
 use Rattle.std.proofs.lemmas.Bool.{and_from}
 use Rattle.lard_law_view.specs.Prelude.{BackRow, Conn, EndpointParts, Epoch, FilesAt, Front, FrontConn, FrontRest, FrontRow, IsConnNumber, IsNodeEnv, Kept, Node, NodeEnv, NodePart, Setting, SpellsMessage, Station, Talk, Verdict, Was, decoded_message, front_rest, is_row_at, is_with, offer_answer, parts_of, tale_at}
+use Rattle.lard_law_connections.proofs.BytesFair.{told-kept}
 use Rattle.lard_law_connections.specs.BytesAgreement.{AwayAgrees, IsFair, IsKept, IsOffering, IsOpen, NodeAgrees, SeatAgrees, StageAgrees}
 use Rattle.lard_law_connections.proofs.BytesClientMoves.{has-fair}
 use Rattle.lard_law_connections.proofs.BytesMessages.{offers-read}
 use Rattle.lard_law_connections.proofs.BytesNodeTurns.{talk-of}
-use Rattle.lard_law_connections.specs.Places.{IsComing, IsDecided, IsOffered, IsPast, IsThere, Offers, Owning, Sits, StageSits, owning}
-use Rattle.lard_law_connections.proofs.PlacesFrontMessages.{came-says}
+use Rattle.lard_law_connections.specs.Places.{HasEnded, IsComing, IsDecided, IsOffered, IsPast, IsThere, Offers, Owning, Sits, StageSits, owning}
+use Rattle.lard_law_connections.proofs.PlacesFrontMessages.{offer-says}
 use Rattle.lard_law_connections.proofs.PlacesNodeRules.{not-decided}
 use Rattle.lard_law_connections.proofs.PlacesTurns.{IsPlaced, early-at}
 use Rattle.lard_laws.specs.WaysState.{BeginsWithRequest, GoesItsWay, IsAtHome, IsAway, IsPlacedOnce, LetterWays, OfferIs, SeatWays, StageWays, marks_at}
@@ -66,7 +67,7 @@ module _ (k : Setting) (small : k.stream ≤ 2 ^ 30) (x : Conn) (s : Station) (t
   abbrev p : NodePart
   p = x.part.nodes n
 
-  told : IsDecided epoch p.row ⊎ IsKept x.part.front.kept bytes
+  told : IsDecided epoch p.row ⊎ (HasEnded epoch x.part.front.row ⊎ IsKept x.part.front.kept bytes)
   told = (has-fair (IsFair l x.c x.part) (record { from = Front; to = Node n; bytes = bytes }) x.letters was o.fair) _ spells
 
   first_bytes : List Kept → List ℕ
@@ -83,7 +84,7 @@ module _ (k : Setting) (small : k.stream ≤ 2 ^ 30) (x : Conn) (s : Station) (t
         let undecided : IsDecided row.epoch.0 p.row → ⊥ = λ a. not (subst (λ (e : ℕ). IsDecided e p.row) now a) in
         let away : AwayAgrees l.w l.out l.vs pend l.was_reset x.c n row.epoch.0 x.part =
         subst (StageAgrees l.w l.out l.vs pend l.was_reset x.c x.part row.epoch.0) at (subst (SeatAgrees l.w l.out l.vs pend l.was_reset x.c x.part) found o.seat) in
-        let kept : IsKept x.part.front.kept bytes = ⊎_elim (λ f. absurd (not f)) (λ f. f) told in
+        let kept : IsKept x.part.front.kept bytes = told-kept x.part n epoch bytes row found now not told in
         let offering : IsOffering l.w l.out l.vs pend x.c n row.epoch.0 x.part.front.kept = ⊎_elim
         (λ (a : IsPast row.epoch.0 p.row × IsOffering l.w l.out l.vs pend x.c n row.epoch.0 x.part.front.kept). a.1)
         (λ (a : IsDecided row.epoch.0 p.row × NodeAgrees l.w l.out l.vs pend l.was_reset x.c p). absurd (undecided a.0)) away in
@@ -128,5 +129,5 @@ module _ (k : Setting) (small : k.stream ≤ 2 ^ 30) (x : Conn) (s : Station) (t
   pub new-taken : IsPlaced x → IsConnNumber x.c → GoesItsWay files x → offer_answer env.epoch p.row ≡ New → IsTaken files x l pend n epoch parts
   new-taken placed number g new =
       let not : IsDecided epoch p.row → ⊥ = not-decided epoch p.row (subst (λ (i : ℕ). offer_answer i p.row ≡ New) is.epoch_is new) in
-      let said : IsDecided epoch p.row ⊎ IsOffered n epoch x.part.front.row = came-says x Front (Node n) epoch (body.Offer parts) bytes placed.letters was spells in
+      let said : IsDecided epoch p.row ⊎ IsOffered n epoch x.part.front.row = offer-says x placed n epoch parts bytes was spells in
       taken-row placed number g not x.part.front.row refl (⊎_elim (λ f. absurd (not f)) (λ f. f) said)

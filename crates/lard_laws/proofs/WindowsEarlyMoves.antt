@@ -183,6 +183,8 @@ module _ (k : Setting) (small : k.stream ≤ 2 ^ 30) where
       assigns_next = λ n epoch ask c rest found there next. absurd (none-said x s (Node n) Front c.told.bytes h c.told.was);
       ends_again = λ n epoch last c row found away again. absurd (none-said x s (Node n) Front c.told.bytes h c.told.was);
       ends = λ n epoch last c row found away. absurd (none-said x s (Node n) Front c.told.bytes h c.told.was);
+      gives_again = λ n epoch parts c row found past. absurd (none-said x s (Node n) Front c.bytes h c.was);
+      returns = λ n epoch given c row parts at. absurd (none-said x s (Node n) Front c.bytes h c.was);
       admits = λ choice made met row b path at target. absurd (fresh-at row (stage.Waiting b) at);
     }
 

@@ -1,6 +1,6 @@
 -- What the front end forwards was a packet of the client's.
 use Rattle.std.proofs.Common.{◌≡◌, ℕ, List, [], ◌∷◌, ◌++◌, map, Option, Some, None, Ok, IfSome, refl, sym, ap, ◌∙◌, subst}
-use Rattle.lard_law_view.specs.Prelude.{AreSent, Body, Client, ClientRules, Conn, ControlBlock, Front, FrontConn, FrontDeed, FrontEnv, FrontFires, FrontGets, FrontHears, FrontPart, FrontRow, FrontRules, Has, IsConnSound, IsLaw, Kept, Letter, MayRestOn, Message, Move, Node, NodeRules, Place, Rules, Said, Seen, ServeEnv, Setting, client_does, client_injects, decoded_message, front_does, front_rule, grown, inject_seen, kind_of, last_words, letter, letters_of, node_does, nothing_said, packet_seen, parts_of, sent_of, setting, stands, with_leaving}
+use Rattle.lard_law_view.specs.Prelude.{AreSent, Body, Client, ClientRules, Conn, ControlBlock, Front, FrontConn, FrontDeed, FrontEnv, FrontFires, FrontGets, FrontHears, FrontPart, FrontRow, FrontRules, Has, IsConnSound, IsLaw, Kept, Letter, MayRestOn, Message, Move, Node, NodeRules, Place, ReturnedBy, Rules, Said, Seen, ServeEnv, Setting, client_does, client_injects, decoded_message, front_does, front_rule, grown, inject_seen, kind_of, last_words, letter, letters_of, node_does, nothing_said, packet_seen, parts_of, sent_of, setting, stands, with_leaving}
 use Rattle.lard_law_connections.proofs.BytesMessages.{forwards-read}
 use Rattle.lard_law_connections.proofs.PlacesFrontRules.{has-each}
 use Rattle.lard_law_connections.proofs.PlacesHeads.{kinds-same}
@@ -47,6 +47,7 @@ module _ (c : ℕ) (ls : List Letter) where
     offers = λ n e count b h. other-was d e (body.Offer (parts_of b count)) (λ f. let no : kind.Offer ≡ kind.Forward = f in cc);
     tags = λ n e number nodes. other-was d e (body.Tag number nodes) (λ f. let no : kind.Tag ≡ kind.Forward = f in cc);
     acks = λ n e. other-was d e body.EndedAck (λ f. let no : kind.EndedAck ≡ kind.Forward = f in cc);
+    givens = λ n e. other-was d e body.Given (λ f. let no : kind.Given ≡ kind.Forward = f in cc);
   }
 
 -- ---- segments go to the client
@@ -129,6 +130,7 @@ module _ (k : Setting) where
 
   heard-given : (env : FrontEnv) (p : FrontPart) (g : FrontGets) → fronts.Given env AnyBlock AnyBlock Anything AnyReply (any-kept env.serve) p (any-front p.row) g
   heard-given env p (FrontHears bytes (Ok s)) = (tt, (λ none plain. tt), (λ row last found closed. any-words (last_words last.reason last s)))
+  heard-given env p (ReturnedBy n epoch back) = λ row parts at. tt
   heard-given env p _ = tt
 
   module _ (x : Conn) (env : FrontEnv) (heads : List Seen) (sound : IsConnSound x) (h : ForwardsWere x) (ls : List Letter) (goes : (l : Letter) → Has l x.letters → Has l ls) where
@@ -136,6 +138,7 @@ module _ (k : Setting) where
         → telling.Given (λ to bytes. ForwardWasOn x.c ls Front to bytes) env AnyBlock (forwards-tell x.c ls env.serve.c) x.part.front (any-front x.part.front.row) AnyReply (any-kept env.serve) g
     told-given (FrontHears bytes given) comes = λ n e. forward-was x.c ls env.serve.c e bytes (goes (record { from = Client x.c; to = Front; bytes = bytes }) comes.was)
     told-given FrontFires comes = kept-were x ls goes h x.part.front.kept sound.front
+    told-given (ReturnedBy n epoch back) comes = λ row parts at. tt
     told-given _ comes = tt
 
   front-rules : FrontRules k Keeps

@@ -62,7 +62,7 @@ module _ (k : Setting) (small : k.stream ≤ 2 ^ 30) where
     node-adopts : IsConnNumber x.c → (epoch : ℕ) (parts : EndpointParts) (bytes : List ℕ) → SpellsMessage x.c epoch (body.Offer parts) bytes → Was x Front (Node n) bytes → offer_answer epoch (x.part.nodes n).row ≡ New → N parts.una (adopted parts)
     node-adopts number epoch parts bytes spells was new =
         let a : Adopts k.files x number placed s truth.talk truth.pend (known.whole k small x s there truth) h n epoch parts bytes spells was new = adopts k.files x number placed s truth.talk truth.pend (known.whole k small x s there truth) h n epoch parts bytes spells was new in
-        (a.end, omega arith, (a.alone, a.sent))
+        (a.goes.end, omega arith, (a.alone, a.goes.sent))
 
   -- by what it does with its endpoint, where so many were sent; what was noted before it counts not
   node-rule : (x : Conn) (n epoch : ℕ) (env : NodeEnv) (heads : List Seen) (d : node.NodeDeed) (rs : List Rec) → IsNodeEnv k x.c n epoch env

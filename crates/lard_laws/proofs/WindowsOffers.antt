@@ -1,8 +1,8 @@
 -- What is adopted from an Offer sent all that there was.
 use Rattle.std.proofs.Common.{◌≡◌, ⊎_elim, ◌≤◌, ◌<◌, ◌+◌, ◌^◌, ℕ, Bool, true, false, cond, List, [], ◌∷◌, length, Result, Ok, refl, sym, ap, ◌∙◌, subst, arith}
 use Rattle.std.proofs.lemmas.Bool.{both_ways}
-use Rattle.lard_law_view.specs.Prelude.{Client, Conn, EndpointParts, FilesAt, Front, IsBare, IsConnNumber, IsTrueOf, Letter, Node, Part, Place, Said, SegFault, SpellsMessage, Stands as StandsIn, Station, Stream, Talk, ToClient, Verdict, Was, adopted, decoded, offer_answer, one_if, seg_len, seq_offset}
-use Rattle.lard_laws.proofs.AcksOffers.{IsOfferOf, adopted-between, new-is, new-offer}
+use Rattle.lard_law_view.specs.Prelude.{Client, Conn, EndpointParts, FilesAt, Front, IsBare, IsConnNumber, IsTrueOf, IsValidParts, Letter, Node, Part, Place, Said, SegFault, SpellsMessage, Stands as StandsIn, Station, Stream, Talk, ToClient, Verdict, Was, adopted, decoded, offer_answer, one_if, seg_len, seq_offset}
+use Rattle.lard_laws.proofs.AcksOffers.{IsOfferOf, new-is, new-offer, offered-between}
 use Rattle.lard_law_connections.specs.BytesAgreement.{IsFair, IsFairOn, IsOpen}
 use Rattle.lard_law_connections.proofs.PlacesTurns.{IsPlaced}
 use Rattle.lard_law_connections.proofs.SilenceEndpoints.{adopted-turns}
@@ -88,30 +88,29 @@ module _ (k : Talk) (c : ℕ) (p : Part) (isn iss most : ℕ) (going : k.out.end
   letters-true [] f r = tt
   letters-true (l ∷ ls) f r = (on-true l.from l.to l.bytes f.0 r.0, letters-true ls f.1 r.1)
 
--- ---- what is adopted
+-- ---- what goes on from an Offer
 
-module _ (files : FilesAt) (x : Conn) (number : IsConnNumber x.c) (at_place : IsPlaced x) (s : Station) (l : Talk) (pend : List Verdict) (o : IsOpen files x l pend s) (h : StationReaches x s)
-    (n epoch : ℕ) (parts : EndpointParts) (bytes : List ℕ) (spells : SpellsMessage x.c epoch (body.Offer parts) bytes) (was : Was x Front (Node n) bytes) (new : offer_answer epoch (x.part.nodes n).row ≡ New) where
-  -- it is an endpoint of the connection, which sent all that there was; and no other place has it
-  pub record Adopts : Type 0 where
-    pub end : IsEnd s.client.send.iss s.iss (adopted parts)
-    pub sent : SymbolsWereSent x.c s.client s.iss x.letters parts.una
-    pub alone : NodeAlone n x.part
+-- it is an endpoint of the connection, which sent all that there was
+pub record GoesOnFrom (x : Conn) (s : Station) (parts : EndpointParts) : Type 0 where
+  pub end : IsEnd s.client.send.iss s.iss (adopted parts)
+  pub sent : SymbolsWereSent x.c s.client s.iss x.letters parts.una
 
+module _ (files : FilesAt) (x : Conn) (s : Station) (l : Talk) (pend : List Verdict) (o : IsOpen files x l pend s) (h : StationReaches x s)
+    (parts : EndpointParts) (valid : IsValidParts parts) where
   isn_is : l.w.first ≡ s.client.send.iss
   isn_is = ap (λ (z : Stream). z.first) o.client.w_is
 
-  of-offer : IsOfferOf l pend parts → NodeAlone n x.part → Adopts
-  of-offer f alone =
+  pub of-offer : IsOfferOf l pend parts → GoesOnFrom x s parts
+  of-offer f =
       let stands : Stands f.block = frozen_stands f.block f.holds.holds.sound f.frozen in
       let count = f.holds.holds.speaks.part.count in
       let una : parts.una ≡ 1 + length l.out.bytes = ap (λ (p : EndpointParts). p.una) f.same ∙ stands.una_is ∙ ap (λ m. 1 + m) (sym count) in
       let going : l.out.ended ≡ false = ap (λ (z : Stream). z.ended) f.holds.holds.out_is ∙ stands.finished_is in
-      let between : IsBetween l.w l.out (adopted parts) = subst (λ (p : EndpointParts). IsBetween l.w l.out (adopted p)) (sym f.same) (adopted-between l.w l.out l.vs pend f.block f.count f.holds f.frozen) in
+      let between : IsBetween l.w l.out (adopted parts) = offered-between l pend parts f in
       let within = o.client.accepts.within in
       record {
         end = record {
-          sound = (adopted-turns parts (offer-valid x.c epoch parts bytes spells)).0;
+          sound = (adopted-turns parts valid).0;
           irs_is = between.hears.first ∙ isn_is;
           iss_is = sym (ap (λ (z : Stream). z.first) between.out_is) ∙ o.begins;
           bytes = l.out.bytes;
@@ -119,15 +118,29 @@ module _ (files : FilesAt) (x : Conn) (number : IsConnNumber x.c) (at_place : Is
         };
         sent = record {
           taken = let most = taken-most s.client in let eof = open-eof s.client.eof refl in omega (arith, most, eof, within, una);
-          all = subst (λ (u : ℕ). Each (LetterReaches x.c s.client.send.iss s.iss u) x.letters) (sym una) (letters-true l x.c x.part s.client.send.iss s.iss h.most going o.says.number o.says.most o.begins x.letters o.fair h.letters);
+          all = subst (λ (u : ℕ). Each (LetterReaches x.c s.client.send.iss s.iss u) x.letters) (sym una)
+              (letters-true l x.c x.part s.client.send.iss s.iss h.most going o.says.number o.says.most o.begins x.letters o.fair h.letters);
         };
-        alone = alone;
       } where
         open-eof : (b : Bool) → s.client.eof ≡ b → one_if s.client.eof ≡ 0
         open-eof false e = ap one_if e
         open-eof true e = absurd (both_ways l.out.ended (ap (λ (z : Stream). z.ended) f.holds.holds.out_is ∙ (frozen_stands f.block f.holds.holds.sound f.frozen).finished_is) (o.client.accepts.final e).1)
 
+-- ---- what is adopted
+
+module _ (files : FilesAt) (x : Conn) (number : IsConnNumber x.c) (at_place : IsPlaced x) (s : Station) (l : Talk) (pend : List Verdict)
+    (o : IsOpen files x l pend s) (h : StationReaches x s)
+    (n epoch : ℕ) (parts : EndpointParts) (bytes : List ℕ) (spells : SpellsMessage x.c epoch (body.Offer parts) bytes)
+    (was : Was x Front (Node n) bytes) (new : offer_answer epoch (x.part.nodes n).row ≡ New) where
+  -- no other place has it
+  pub record Adopts : Type 0 where
+    pub goes : GoesOnFrom x s parts
+    pub alone : NodeAlone n x.part
+
   pub adopts : Adopts
   adopts =
       let f = new-offer x at_place n epoch parts bytes spells was new in
-      of-offer (new-is files x number at_place s l pend o n epoch parts bytes spells was new) (offered-alone x at_place n f.row f.node f.named f.found f.staged f.node_is)
+      record {
+        goes = of-offer files x s l pend o h parts (offer-valid x.c epoch parts bytes spells) (new-is files x number at_place s l pend o n epoch parts bytes spells was new);
+        alone = offered-alone x at_place n f.row f.node f.named f.found f.staged f.node_is;
+      }

@@ -1,6 +1,6 @@
 -- Where one place has a connection, no other has it.
-use Rattle.std.proofs.Common.{◌≡◌, ◌⊎◌, inl, inr, ⊎_elim, ℕ, Option, Some, None, refl, sym, ap, ◌∙◌, subst}
-use Rattle.lard_law_view.specs.Prelude.{BackConn, BackRow, Conn, ControlBlock, Epoch, Final, FrontConn, FrontRow, NodePart, Part, Stay, tale_at}
+use Rattle.std.proofs.Common.{◌≡◌, ◌⊎◌, inl, inr, ⊎_elim, ℕ, List, Option, Some, None, refl, sym, ap, ◌∙◌, subst}
+use Rattle.lard_law_view.specs.Prelude.{BackConn, BackRow, Conn, ControlBlock, EndpointParts, Epoch, Final, FrontConn, FrontRow, Kept, NodePart, Part, Stay, parts_kept, tale_at}
 use Rattle.lard_law_connections.specs.Places.{ArePast, IsLeft, IsPast, OthersArePast, Owning, Sits, StageSits, owning}
 use Rattle.lard_law_connections.proofs.PlacesNodeRules.{by-node, past-held}
 use Rattle.lard_law_connections.proofs.PlacesTurns.{IsPlaced}
@@ -38,19 +38,32 @@ module _ (P R : ControlBlock → Type 0) (q : Option FrontRow) (w : (row : Front
     by-row None found h = tt
     by-row (Some row) found h = by-stage row found row.stage refl h
 
--- ---- how much was sent by the endpoint of a row
+-- ---- how much was sent by the endpoint of a row, or by that of the Offer that is kept
 
-abbrev stage_sent : FrontConn → ℕ
-stage_sent (stage.Held b) = b.send.nxt
-stage_sent (stage.Waiting b) = b.send.nxt
-stage_sent _ = 0
+abbrev parts_sent : Option EndpointParts → ℕ
+parts_sent None = 0
+parts_sent (Some parts) = parts.una
 
-abbrev pub front_sent : Option FrontRow → ℕ
-front_sent None = 0
-front_sent (Some row) = stage_sent row.stage
+abbrev stage_sent : List Kept → FrontConn → ℕ
+stage_sent ks (stage.Held b) = b.send.nxt
+stage_sent ks (stage.Waiting b) = b.send.nxt
+stage_sent ks (stage.Offering n e) = parts_sent (parts_kept ks)
+stage_sent ks _ = 0
 
-pub front-sent : (q : Option FrontRow) (row : FrontRow) (b : ControlBlock) → q ≡ Some row → (row.stage ≡ stage.Held b) ⊎ (row.stage ≡ stage.Waiting b) → front_sent q ≡ b.send.nxt
-front-sent q row b found at = ap front_sent found ∙ ⊎_elim (λ (e : row.stage ≡ stage.Held b). ap stage_sent e) (λ (e : row.stage ≡ stage.Waiting b). ap stage_sent e) at
+abbrev pub front_sent : List Kept → Option FrontRow → ℕ
+front_sent ks None = 0
+front_sent ks (Some row) = stage_sent ks row.stage
+
+pub front-sent : (ks : List Kept) (q : Option FrontRow) (row : FrontRow) (b : ControlBlock) → q ≡ Some row
+    → (row.stage ≡ stage.Held b) ⊎ (row.stage ≡ stage.Waiting b)
+    → front_sent ks q ≡ b.send.nxt
+front-sent ks q row b found at = ap (front_sent ks) found
+    ∙ ⊎_elim (λ (e : row.stage ≡ stage.Held b). ap (stage_sent ks) e) (λ (e : row.stage ≡ stage.Waiting b). ap (stage_sent ks) e) at
+
+pub offered-sent : (ks : List Kept) (q : Option FrontRow) (row : FrontRow) (n : ℕ) (e : Epoch) (parts : EndpointParts) → q ≡ Some row
+    → row.stage ≡ stage.Offering n e
+    → parts_kept ks ≡ Some parts → front_sent ks q ≡ parts.una
+offered-sent ks q row n e parts found at kept = ap (front_sent ks) found ∙ ap (stage_sent ks) at ∙ ap parts_sent kept
 
 abbrev back_sent : BackConn → ℕ
 back_sent (back.Here b) = b.send.nxt

@@ -188,6 +188,7 @@ module _ (k : Setting) where
   heard-given : (x : Conn) (env : front.FrontEnv) (heads : List Seen) (g : front.FrontGets) → FrontComes x env heads g
       → fronts.Given env AnyBlock AnyBlock Anything (Says x.c x.letters) (says-kept x.c x.letters env.serve) x.part.front (any-front x.part.front.row) g
   heard-given x env heads (front.FrontHears bytes (Ok s)) comes = (tt, (λ none plain. tt), (λ row last found closed. words-say x.c x.letters bytes s comes.was (sym comes.read) last.reason last))
+  heard-given x env heads (front.ReturnedBy n epoch back) comes = λ row parts at. tt
   heard-given x env heads _ comes = tt
 
   front-rules : FrontRules k Keeps

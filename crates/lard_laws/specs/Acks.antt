@@ -62,12 +62,12 @@ WordActs c b bytes = (s : Said) → decoded bytes c ToCluster ≡ Ok s → WordM
 abbrev pub ReplyActs : ℕ → Bounds → List ℕ → Type 0
 ReplyActs c b bytes = (s : Said) → decoded bytes c ToClient ≡ Ok s → ReplyMay b.isn b.heard s
 
--- A message of the front end: an Offer that its node has not decided has all that was taken, and what is forwarded is a segment of
--- the client.
-abbrev pub FrontBodyActs : ℕ → Bounds → ℕ → Option BackRow → Body → Type 0
-FrontBodyActs c b e row (body.Offer parts) = IsDecided e row ⊎ PartsAct b parts
-FrontBodyActs c b e row (body.Forward segment) = WordActs c b segment
-FrontBodyActs c b e row _ = Unit {0}
+-- A message of the front end: an Offer that its node has not decided, and of whose epoch the front end is, has all that was taken; and what is
+-- forwarded is a segment of the client.
+abbrev pub FrontBodyActs : ℕ → Bounds → Part → ℕ → ℕ → Body → Type 0
+FrontBodyActs c b p n e (body.Offer parts) = IsDecided e (p.nodes n).row ⊎ (HasEnded e p.front.row ⊎ PartsAct b parts)
+FrontBodyActs c b p n e (body.Forward segment) = WordActs c b segment
+FrontBodyActs c b p n e _ = Unit {0}
 
 -- A message of a node: the end of a stay that the front end does not know has the last numbers.
 abbrev pub NodeBodyActs : Bounds → ℕ → Option FrontRow → Body → Type 0
@@ -78,7 +78,7 @@ abbrev pub LetterActsOn : ℕ → Bounds → Part → Place → Place → List �
 LetterActsOn c b p (Client d) Front bytes = WordActs c b bytes
 LetterActsOn c b p Front (Client d) bytes = ReplyActs c b bytes
 LetterActsOn c b p (Node n) (Client d) bytes = ReplyActs c b bytes
-LetterActsOn c b p Front (Node n) bytes = (m : Message) → decoded_message bytes ≡ Ok m → FrontBodyActs c b m.epoch.0 (p.nodes n).row m.body
+LetterActsOn c b p Front (Node n) bytes = (m : Message) → decoded_message bytes ≡ Ok m → FrontBodyActs c b p n m.epoch.0 m.body
 LetterActsOn c b p (Node n) Front bytes = (m : Message) → decoded_message bytes ≡ Ok m → NodeBodyActs b m.epoch.0 p.front.row m.body
 LetterActsOn c b p _ _ bytes = Unit {0}
 

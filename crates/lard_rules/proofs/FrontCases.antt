@@ -1,8 +1,9 @@
--- What each rule of the front end can come to, once: what a segment, a timer, a Taken, an Ask and an Ended do, and what becomes of the head of
--- the line. A law says what it keeps for each outcome, and opens no rule.
-use Rattle.std.proofs.Common.{◌≡◌, ◌⊎◌, inl, inr, ◌<◌, ◌+◌, ◌==◌, ◌&&◌, nat_lt, ℕ, Bool, true, false, cond, List, [], ◌∷◌, ◌++◌, map, Option, Some, None, Err, Ok, refl, subst, arith}
-use Rattle.std.proofs.lemmas.Bool.{cond_both, eqb-true, ltb-true}
+-- What each rule of the front end can come to, once: what a segment, a timer, a Taken, an Ask, an Ended and a return do, and what becomes of the
+-- head of the line. A law says what it keeps for each outcome, and opens no rule.
+use Rattle.std.proofs.Common.{◌≡◌, ◌⊎◌, inl, inr, ◌<◌, ◌+◌, ◌==◌, ◌&&◌, nat_lt, ℕ, Bool, true, false, cond, List, [], ◌∷◌, ◌++◌, map, Option, Some, None, Err, Ok, is_some, refl, subst, sym, ◌∙◌, arith}
+use Rattle.std.proofs.lemmas.Bool.{and_parts, cond_both, eqb-true, ltb-true}
 use Rattle.lard_base.specs.declared.ids.Epoch.{Epoch}
+use Rattle.lard_base.specs.declared.parts.EndpointParts.{EndpointParts}
 use Rattle.lard_base.specs.declared.place.Place.{Place}
 use Rattle.lard_base.specs.declared.place.Place.TheVariants as place
 use Rattle.lard_dispatch.specs.declared.dispatch.Ask.{Ask}
@@ -13,12 +14,16 @@ use Rattle.lard_endpoint.specs.declared.control.moving.Final.{Final}
 use Rattle.lard_endpoint.specs.Arriving.{on_segment}
 use Rattle.lard_endpoint.specs.Control.{ControlBlock, listening}
 use Rattle.lard_endpoint.specs.Leaving.{after_timer, timed}
+use Rattle.lard_endpoint.specs.Moving.{adopted}
 use Rattle.lard_handoff_front.specs.declared.row.FrontConn.{FrontConn}
 use Rattle.lard_handoff_front.specs.declared.row.FrontConn.TheVariants as stage
 use Rattle.lard_handoff_front.specs.declared.row.FrontRow.{FrontRow}
 use Rattle.lard_handoff_front.specs.declared.table.OnEnded.{OnEnded}
 use Rattle.lard_handoff_front.specs.declared.table.OnEnded.TheVariants.{New, Again, Stale}
 use Rattle.lard_handoff_front.specs.Front.{asked_node, end_answer, ended_with, next_epoch}
+use Rattle.lard_handoff_front.specs.declared.table.returns.Back.{Back}
+use Rattle.lard_handoff_front.specs.declared.table.returns.Back.TheVariants as back
+use Rattle.lard_handoff_front.specs.Returns.{give_answer, refused_answer, returned_row}
 use Rattle.lard_handoff_front.specs.Row.{is_away, offered_to}
 use Rattle.lard_journal.specs.declared.rec.Rec.TheVariants as rec
 use Rattle.lard_policy.specs.declared.first.FirstChoice.{FirstChoice}
@@ -27,9 +32,10 @@ use Rattle.lard_rules.specs.declared.front.FrontRest.{FrontRest}
 use Rattle.lard_rules.specs.declared.front.FrontTurn.{FrontTurn}
 use Rattle.lard_rules.specs.declared.places.Ending.{Ending}
 use Rattle.lard_rules.specs.declared.places.Turn.{Turn}
-use Rattle.lard_rules.specs.Front.{FrontDeed, Drops, Says, Does, FrontGets, FrontHears, FrontFires, TakenBy, AskedBy, EndedBy, FrontAdmits, front_rule, FrontEnv, FrontPart, ack_sent, admitted_at, admitted_by, asked_by, assigns, fires_at, forwarded, front_admitted, front_admitted_with, front_asked, front_begun, front_ended, front_ended_by, front_ends, front_fired, front_fired_by, front_hears, front_rest, front_rests, front_saying, front_taken, front_timer, handed_off, hears_at, holds, is_row_at, placed, settled_by, tag_sent, taken_by, turn_here, waits_on}
+use Rattle.lard_rules.specs.Front.{FrontDeed, Drops, Says, Does, FrontGets, FrontHears, FrontFires, TakenBy, AskedBy, EndedBy, ReturnedBy, FrontAdmits, back_answer, back_notes, back_part, back_rest, does_first, front_returned, given_sent, is_with, parts_back, reads_on, returned_by, front_rule, FrontEnv, FrontPart, ack_sent, admitted_at, admitted_by, asked_by, assigns, fires_at, forwarded, front_admitted, front_admitted_with, front_asked, front_begun, front_ended, front_ended_by, front_ends, front_fired, front_fired_by, front_hears, front_rest, front_rests, front_saying, front_taken, front_timer, handed_off, hears_at, holds, is_row_at, placed, settled_by, tag_sent, taken_by, turn_here, waits_on}
 use Rattle.lard_rules.specs.FrontReading.{Reading, front_reads}
 use Rattle.lard_rules.specs.Serving.{Service, serving, serving_ready_of, serving_settled, spoken}
+use Rattle.lard_rules.proofs.FrontReturns.{read-noted}
 use Rattle.lard_rules.specs.Tombstone.{is_plain_syn, last_words, tombstone}
 use Rattle.lard_segment.specs.Segment.{Said}
 
@@ -200,6 +206,100 @@ module _ (p : FrontPart) (D : FrontDeed → Type 0) (drops : D Drops) where
           (λ t. new row found t)
           (λ t. cond_both (ended_with epoch row.ended_by) Again Stale (λ (a : OnEnded). D (front_ended_by env p n epoch last (Some row) a)) (λ u. again row found t u) (λ u. drops))
 
+-- ---- a connection that comes back
+
+-- It comes back from its node, in its epoch, with these parts: one that was refused was not taken there.
+pub record IsBack (p : FrontPart) (n epoch : ℕ) (given : Option EndpointParts) (row : FrontRow) (parts : EndpointParts) : Type 0 where
+  pub from : Epoch
+  pub at : IsAwayWith p row n from
+  pub epoch_is : from.0 ≡ epoch
+  pub refused : given ≡ None → IsInStage p row (stage.Offering n from)
+  pub parts_are : parts_back p given ≡ Some parts
+
+-- what is in hand before it is read on: the notes say that it is back
+abbrev pub back_service : FrontEnv → FrontRow → EndpointParts → Service
+back_service env row parts = serving (adopted parts) parts.served (back_notes env.serve.c row)
+
+abbrev pub back_reading : FrontEnv → FrontRow → EndpointParts → Reading
+back_reading env row parts = record { service = back_service env row parts; target = None }
+
+-- It reads on, as one that is held, behind these messages.
+pub record KeptByReturn (env : FrontEnv) (p : FrontPart) (said : List (Place × List ℕ)) (row : FrontRow) (parts : EndpointParts) (R : Service → Option (List ℕ) → Type 0) (D : FrontDeed → Type 0) : Type 0 where
+  pub reads : R (front_reads env.serve (back_reading env row parts)).service (front_reads env.serve (back_reading env row parts)).target
+  pub holds : (w : Service) → R w None → D (does_first [] said (holds (back_part p row parts) (returned_row parts row) (back_rest parts) (serving_settled env.serve w)))
+  pub hands : (w : Service) (path : List ℕ) (choice : FirstChoice) → R w (Some path) → env.first path ≡ first.Go choice
+      → D (does_first [] said (Does (placed env (back_part p row parts) (returned_row parts row) (back_rest parts) w path (first.Go choice))))
+  pub waits : (w : Service) (path : List ℕ) → R w (Some path) → env.first path ≡ first.Waits
+      → D (does_first [] said (Does (placed env (back_part p row parts) (returned_row parts row) (back_rest parts) w path first.Waits)))
+
+module _ (env : FrontEnv) (p : FrontPart) (said : List (Place × List ℕ)) (row : FrontRow) (parts : EndpointParts) (R : Service → Option (List ℕ) → Type 0) (D : FrontDeed → Type 0) where
+  pub return-keeps : KeptByReturn env p said row parts R D → D (does_first (back_notes env.serve.c row) said (reads_on env p row parts))
+  return-keeps kept = subst D (sym (read-noted (back_notes env.serve.c row) env (back_part p row parts) (returned_row parts row) (back_rest parts) said (record { service = serving (adopted parts) parts.served []; target = None })))
+      (settled x.service x.target kept.reads) where
+    x : Reading
+    x = front_reads env.serve (back_reading env row parts)
+
+    goes : (w : Service) (path : List ℕ) → R w (Some path) → (f : First) → env.first path ≡ f
+        → D (does_first [] said (Does (placed env (back_part p row parts) (returned_row parts row) (back_rest parts) w path f)))
+    goes w path r (first.Go choice) is = kept.hands w path choice r is
+    goes w path r first.Waits is = kept.waits w path r is
+
+    settled : (w : Service) (o : Option (List ℕ)) → R w o → D (does_first [] said (settled_by env (back_part p row parts) (returned_row parts row) (back_rest parts) w o))
+    settled w None r = kept.holds w r
+    settled w (Some path) r = goes w path r (env.first path) refl
+
+-- It comes back, or the Give of one that the front end is past is answered again.
+module _ (env : FrontEnv) (p : FrontPart) (D : FrontDeed → Type 0) (drops : D Drops) (n epoch : ℕ) where
+  is-with : (row : FrontRow) (st : FrontConn) → IsInStage p row st → is_with n epoch st ≡ true → (e : Epoch) × IsAwayWith p row n e × (e.0 ≡ epoch)
+  is-with row (stage.Offering m e) at t =
+      let k = and_parts (m == n) (e.0 == epoch) t in
+      (e, subst (λ (z : ℕ). IsAwayWith p row z e) (eqb-true m n k.0) (inl at), eqb-true e.0 epoch k.1)
+  is-with row (stage.Moved m e) at t =
+      let k = and_parts (m == n) (e.0 == epoch) t in
+      (e, subst (λ (z : ℕ). IsAwayWith p row z e) (eqb-true m n k.0) (inr at), eqb-true e.0 epoch k.1)
+  is-with row _ at t = let no : false ≡ true = t in absurd cc
+
+  abbrev Comes : Option EndpointParts → Option FrontRow → Back → Type 0
+  Comes given o a = D (returned_by env p (given_sent env.serve.c n epoch given) o a (parts_back p given))
+
+  pub returned-keeps : (given : Option EndpointParts)
+      → ((parts : EndpointParts) → given ≡ Some parts → (row : FrontRow) → p.row ≡ Some row → epoch < row.epoch.0 → D (Says (front_saying (given_sent env.serve.c n epoch (Some parts)))))
+      → ((row : FrontRow) (parts : EndpointParts) → IsBack p n epoch given row parts → D (does_first (back_notes env.serve.c row) (given_sent env.serve.c n epoch given) (reads_on env p row parts)))
+      → D (front_returned env p n epoch given)
+  returned-keeps given again new = by given refl p.row refl where
+    comes : (row : FrontRow) (e : Epoch) → IsAwayWith p row n e → e.0 ≡ epoch → (given ≡ None → IsInStage p row (stage.Offering n e)) → (next : Epoch) → (o : Option EndpointParts) → parts_back p given ≡ o
+        → D (returned_by env p (given_sent env.serve.c n epoch given) (Some row) (back.New next) o)
+    comes row e at same refused next None is = drops
+    comes row e at same refused next (Some parts) is = new row parts (record { from = e; at = at; epoch_is = same; refused = refused; parts_are = is })
+
+    of-refused : given ≡ None → (row : FrontRow) (st : FrontConn) → IsInStage p row st → is_with n epoch st ≡ true → Comes given (Some row) (refused_answer epoch (Some (record row { stage = st })))
+    of-refused none row (stage.Offering m e) at t =
+        let k = and_parts (m == n) (e.0 == epoch) t in
+        let there : IsInStage p row (stage.Offering n e) = subst (λ (z : ℕ). IsInStage p row (stage.Offering z e)) (eqb-true m n k.0) at in
+        let same : e.0 ≡ epoch = eqb-true e.0 epoch k.1 in
+        cond_both (is_some (cond (e.0 == epoch) (Some m) None)) (back.New (record { 0 = row.epoch.0 + 1 })) back.Stale (Comes given (Some row))
+        (λ u. comes row e (inl there) same (λ z. there) (record { 0 = row.epoch.0 + 1 }) (parts_back p given) refl) (λ u. drops)
+    of-refused none row (stage.Moved m e) at t = drops
+    of-refused none row _ at t = let no : false ≡ true = t in absurd cc
+
+    past : (parts : EndpointParts) → given ≡ Some parts → (row : FrontRow) → p.row ≡ Some row → Comes given (Some row) (cond (nat_lt epoch row.epoch.0) back.Again back.Stale)
+    past parts is row found = cond_both (nat_lt epoch row.epoch.0) back.Again back.Stale (Comes given (Some row))
+        (λ u. subst (λ (g : Option EndpointParts). D (Says (front_saying (given_sent env.serve.c n epoch g)))) (sym is) (again parts is row found (ltb-true epoch row.epoch.0 u))) (λ u. drops)
+
+    of-given : (parts : EndpointParts) → given ≡ Some parts → (row : FrontRow) (e : Epoch) → p.row ≡ Some row → IsAwayWith p row n e → e.0 ≡ epoch → Comes given (Some row) (give_answer epoch (Some row))
+    of-given parts is row e found at same =
+        cond_both (is_away epoch row.stage) (back.New (record { 0 = row.epoch.0 + 1 })) (cond (nat_lt epoch row.epoch.0) back.Again back.Stale) (Comes given (Some row))
+        (λ u. comes row e at same (λ none. let no : None ≡ Some parts = sym none ∙ is in absurd cc) (record { 0 = row.epoch.0 + 1 }) (parts_back p given) refl)
+        (λ u. past parts is row found)
+
+    by : (g : Option EndpointParts) → given ≡ g → (o : Option FrontRow) → p.row ≡ o → D (returned_by env p (given_sent env.serve.c n epoch given) o (back_answer n epoch g o) (parts_back p given))
+    by g is None none = drops
+    by None is (Some row) found =
+        cond_both (is_with n epoch row.stage) (refused_answer epoch (Some row)) back.Stale (Comes given (Some row)) (λ t. of-refused is row row.stage (found, refl) t) (λ t. drops)
+    by (Some parts) is (Some row) found =
+        cond_both (is_with n epoch row.stage) (give_answer epoch (Some row)) (cond (nat_lt epoch row.epoch.0) back.Again back.Stale) (Comes given (Some row))
+        (λ t. let w = is-with row row.stage (found, refl) t in of-given parts is row w.0 found w.1 w.2) (λ t. past parts is row found)
+
 -- ---- the head of the line
 
 -- it waited for this path, and is handed off
@@ -244,6 +344,10 @@ pub record KeptByFront (env : FrontEnv) (p : FrontPart) (M : FrontGets → Type 
       → ended_with epoch row.ended_by ≡ true → D (Says (front_saying (ack_sent env n epoch)))
   pub ends : (n epoch : ℕ) (last : Final) → M (EndedBy n epoch last) → (row : FrontRow) → p.row ≡ Some row → is_away epoch row.stage ≡ true
       → D (Does (front_ends env p n epoch last row (next_epoch row)))
+  pub gives_again : (n epoch : ℕ) (parts : EndpointParts) → M (ReturnedBy n epoch (Some parts)) → (row : FrontRow) → p.row ≡ Some row → epoch < row.epoch.0
+      → D (Says (front_saying (given_sent env.serve.c n epoch (Some parts))))
+  pub returns : (n epoch : ℕ) (given : Option EndpointParts) → M (ReturnedBy n epoch given) → (row : FrontRow) (parts : EndpointParts) → IsBack p n epoch given row parts
+      → KeptByReturn env p (given_sent env.serve.c n epoch given) row parts R D
   pub admits : (choice : FirstChoice) (given : FrontPart × FrontTurn) → M (FrontAdmits choice given) → (row : FrontRow) (b : ControlBlock) (path : List ℕ) → IsInStage p row (stage.Waiting b)
       → (front_rest p.rest).target ≡ Some path → D (hands_off env row (serving b (front_rest p.rest).count []) path choice [])
 
@@ -255,4 +359,7 @@ module _ (env : FrontEnv) (p : FrontPart) (M : FrontGets → Type 0) (R : Servic
   front-keeps (TakenBy n epoch) is m = taken-keeps p D kept.drops epoch (kept.takes n epoch m)
   front-keeps (AskedBy n epoch ask) is m = asked-keeps p D kept.drops env n epoch ask (kept.tags_again n epoch ask m) (kept.assigns_next n epoch ask m)
   front-keeps (EndedBy n epoch last) is m = ended-keeps p D kept.drops env n epoch last (kept.ends_again n epoch last m) (kept.ends n epoch last m)
+  front-keeps (ReturnedBy n epoch given) is m = returned-keeps env p D kept.drops n epoch given
+      (λ parts same row found past. kept.gives_again n epoch parts (subst (λ (g : Option EndpointParts). M (ReturnedBy n epoch g)) same m) row found past)
+      (λ row parts at. return-keeps env p (given_sent env.serve.c n epoch given) row parts R D (kept.returns n epoch given m row parts at))
   front-keeps (FrontAdmits choice given) is m = admitted-keeps env p choice (λ y. D (Does (record { part = y.0; turn = y.1; calls = [] }))) (kept.admits choice given m) given is

@@ -1,5 +1,5 @@
 -- What is put back of one connection leaves the front end's state sound.
-use Rattle.std.proofs.Common.{◌≡◌, ℕ, [], Some, sym, subst, ◌∙◌, inl, inr}
+use Rattle.std.proofs.Common.{◌≡◌, ◌≤◌, ℕ, [], length, Some, sym, subst, ◌∙◌, inl, inr}
 use Rattle.std.proofs.lemmas.Bool.{cases_eq}
 use Rattle.std.specs.FinMap as table
 use Rattle.lard_base.specs.declared.ids.Millis.{Millis}
@@ -10,14 +10,16 @@ use Rattle.lard_dispatch.proofs.AllCalls.{calls-kept}
 use Rattle.lard_rules.specs.declared.front.FrontState.{FrontState}
 use Rattle.lard_rules.specs.Front.{FrontDeed, Drops, Says, Does, Did, FrontPart}
 use Rattle.lard_rules.specs.FrontPlace.{front_deed, front_part, front_put, put_back}
-use Rattle.lard_rules.specs.FrontSound.{HasTag, IsFrontSound, IsPartSound, dispatch_standing}
+use Rattle.lard_rules.specs.FrontSound.{HasTag, IsFrontSound, IsPartSound, OpenNodes, dispatch_standing, open_nodes_of}
+use Rattle.lard_rules.proofs.FrontOpen.{calls-serve}
 use Rattle.lard_rules.proofs.FrontParts.{part_other, part_put}
 use Rattle.lard_resend.proofs.Lists.{found_other, some_put}
 
 -- What is done to connection c is sound: what is put back stands with what the dispatcher has of it, it has each other
--- connection where it was, and it may be called so.
+-- connection where it was, and it may be called so. No node is closed.
 pub record Keeps (d : Dispatcher) (c : ℕ) (now : Millis) (x : Did) : Type 0 where
-  pub part : IsPartSound x.part (dispatch_standing (after_calls d x.calls) c)
+  pub part : IsPartSound (open_nodes_of d) x.part (dispatch_standing (after_calls d x.calls) c)
+  pub nodes : open_nodes_of (after_calls d x.calls) ≡ open_nodes_of d
   pub tag : HasTag x.part.rest
   pub others : (q : ℕ) → (q ≡ c → ⊥) → dispatch_standing (after_calls d x.calls) q ≡ dispatch_standing d q
   pub allowed : AreAllowed d x.calls
@@ -51,12 +53,16 @@ pub record Stays (now : Millis) (s t : FrontState) : Type 0 where
 pub put-stays : (s : FrontState) (c : ℕ) (now : Millis) (x : Did) → IsFrontSound s → Keeps s.dispatch c now x → Stays now s (put_back s c x)
 put-stays s c now x sound keeps =
     let d : Dispatcher = after_calls s.dispatch x.calls in
+    let at : OpenNodes → (q : ℕ) → FrontPart → Type 0 = λ k q p. IsPartSound k p (dispatch_standing d q) in
     record {
       sound = record {
-        each = put-all (λ q p. IsPartSound p (dispatch_standing d q)) s c x.part keeps.part (λ q n. subst (IsPartSound (front_part s q)) (sym (keeps.others q n)) (sound.each q));
+        each = subst (λ k. (q : ℕ) → at k q (front_part (front_put s c x.part) q)) (sym keeps.nodes)
+            (put-all (at (open_nodes_of s.dispatch)) s c x.part keeps.part (λ q n. subst (IsPartSound (open_nodes_of s.dispatch) (front_part s q)) (sym (keeps.others q n)) (sound.each q)));
         tags = put-all (λ q p. HasTag p.rest) s c x.part keeps.tag (λ q n. sound.tags q);
         some = put-some s c x.part sound.some;
         books = calls-kept s.dispatch x.calls sound.books keeps.allowed;
+        few_open = subst (λ (k : OpenNodes). length k.left_open ≤ k.all) (sym keeps.nodes) sound.few_open;
+        served = calls-serve s.dispatch x.calls sound.books keeps.allowed sound.served;
       };
       clock = keeps.clock;
     }

@@ -5,11 +5,11 @@ use Rattle.lard_rules.specs.Loop.{Step, More, Done, runs_on, runs}
 
 module _ {X : Type 0} where
   -- what a turn gives, with what comes after it
-  abbrev then : (X → X) → Step X → X
+  abbrev pub then : (X → X) → Step X → X
   then f (More y) = f y
   then f (Done y) = y
 
-  runs-suc : (turn : X → Step X) (n : ℕ) (x : X) → runs_on (suc n) turn x ≡ then (runs_on n turn) (turn x)
+  pub runs-suc : (turn : X → Step X) (n : ℕ) (x : X) → runs_on (suc n) turn x ≡ then (runs_on n turn) (turn x)
   unfolding runs_on
   runs-suc turn n x = go (turn x) where
     go : (s : Step X) → (elim s [ More y ↦ runs_on n turn y | Done y ↦ y ]) ≡ then (runs_on n turn) s

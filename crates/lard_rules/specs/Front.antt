@@ -3,6 +3,7 @@ use Rattle.std.specs.Prelude.{ℕ, ◌+◌, ◌==◌, nat_lt, ◌&&◌, Bool, tr
 use Rattle.std.specs.List.{list_any}
 use Rattle.lard_base.specs.declared.ids.Epoch.{Epoch}
 use Rattle.lard_base.specs.declared.ids.Millis.{Millis}
+use Rattle.lard_base.specs.declared.parts.EndpointParts.{EndpointParts}
 use Rattle.lard_base.specs.declared.place.Place.{Place}
 use Rattle.lard_base.specs.declared.place.Place.TheVariants as place
 use Rattle.lard_base.specs.declared.place.TimerKind.{TimerKind}
@@ -18,7 +19,7 @@ use Rattle.lard_endpoint.specs.declared.control.moving.Final.{Final}
 use Rattle.lard_endpoint.specs.Arriving.{on_segment}
 use Rattle.lard_endpoint.specs.Control.{ControlBlock, listening}
 use Rattle.lard_endpoint.specs.Leaving.{timed, after_timer}
-use Rattle.lard_endpoint.specs.Moving.{parts_of}
+use Rattle.lard_endpoint.specs.Moving.{adopted, parts_of}
 use Rattle.lard_rules.specs.declared.front.FrontRest.{FrontRest}
 use Rattle.lard_rules.specs.declared.front.FrontTurn.{FrontTurn}
 use Rattle.lard_rules.specs.FrontReading.{Reading, front_reads}
@@ -27,12 +28,18 @@ use Rattle.lard_handoff_front.specs.declared.row.FrontConn.TheVariants as stage
 use Rattle.lard_handoff_front.specs.declared.row.FrontRow.{FrontRow}
 use Rattle.lard_handoff_front.specs.declared.table.OnEnded.{OnEnded}
 use Rattle.lard_handoff_front.specs.declared.table.OnEnded.TheVariants.{New, Again, Stale}
+use Rattle.lard_handoff_front.specs.declared.table.returns.Back.{Back}
+use Rattle.lard_handoff_front.specs.declared.table.returns.Back.TheVariants as back
 use Rattle.lard_handoff_front.specs.Front.{asked_node, end_answer, ended_row, next_epoch}
+use Rattle.lard_handoff_front.specs.Returns.{give_answer, refused_answer, returned_row}
 use Rattle.lard_journal.specs.declared.rec.Rec.{Rec}
 use Rattle.lard_journal.specs.declared.rec.Rec.TheVariants as rec
+use Rattle.lard_message.specs.declared.fault.MsgFault.{MsgFault}
 use Rattle.lard_message.specs.declared.message.Body.{Body}
 use Rattle.lard_message.specs.declared.message.Body.TheVariants as body
+use Rattle.lard_message.specs.declared.message.Message.{Message}
 use Rattle.lard_message.specs.Message.{spelled_message}
+use Rattle.lard_message.specs.Reading.{decoded_message}
 use Rattle.lard_policy.specs.declared.first.FirstChoice.{FirstChoice}
 use Rattle.lard_resend.specs.declared.kept.Kept.{Kept}
 use Rattle.lard_resend.specs.Kept.{kind_rank, without}
@@ -282,6 +289,78 @@ front_ended_by env p from epoch last (Some row) Stale = Drops
 abbrev pub front_ended : FrontEnv → FrontPart → ℕ → ℕ → Final → FrontDeed
 front_ended env p from epoch last = front_ended_by env p from epoch last p.row (end_answer epoch p.row)
 
+-- ---- a connection that comes back
+
+-- the endpoint that an Offer carries
+abbrev pub parts_in : Body → Option EndpointParts
+parts_in (body.Offer parts) = Some parts
+parts_in _ = None
+
+abbrev pub parts_read : Result Message MsgFault → Option EndpointParts
+parts_read (Err fault) = None
+parts_read (Ok m) = parts_in m.body
+
+-- that of the Offer that is kept until its node answers
+abbrev pub parts_kept : List Kept → Option EndpointParts
+parts_kept [] = None
+parts_kept (k ∷ ks) = parts_read (decoded_message k.bytes)
+
+-- Its node refused it, and the front end goes on from the Offer that it keeps; or gives it back, with the endpoint as it is now.
+abbrev pub parts_back : FrontPart → Option EndpointParts → Option EndpointParts
+parts_back p None = parts_kept p.kept
+parts_back p (Some parts) = Some parts
+
+-- a Give is answered, a refusal is not
+abbrev pub given_sent : ℕ → ℕ → ℕ → Option EndpointParts → List (Place × List ℕ)
+given_sent c from epoch None = []
+given_sent c from epoch (Some parts) = (place.Node from, message c epoch body.Given) ∷ []
+
+-- the front end is past this epoch of the connection
+abbrev pub is_behind : ℕ → Option FrontRow → Bool
+is_behind epoch None = false
+is_behind epoch (Some row) = nat_lt epoch row.epoch.0
+
+-- It counts from the node where the connection is, in its epoch. Told again, a Give is answered again.
+abbrev pub back_answer : ℕ → ℕ → Option EndpointParts → Option FrontRow → Back
+back_answer from epoch None o = if is_row_at from epoch o then refused_answer epoch o else back.Stale
+back_answer from epoch (Some parts) o = if is_row_at from epoch o then give_answer epoch o else if is_behind epoch o then back.Again else back.Stale
+
+-- It is held again, in the next epoch, with the responses that it had; no answer to its Offer is awaited.
+abbrev pub back_rest : EndpointParts → FrontRest
+back_rest parts = record (front_rest None) { count = parts.served }
+
+abbrev pub back_part : FrontPart → FrontRow → EndpointParts → FrontPart
+back_part p row parts = record { row = Some (returned_row parts row); rest = Some (back_rest parts); kept = without kind.Offer 0 p.kept }
+
+-- that the front end takes it and releases it
+abbrev pub back_notes : ℕ → FrontRow → List Rec
+back_notes c row = rec.Took place.Front c (next_epoch row) ∷ rec.Released c ∷ []
+
+-- these notes and messages stand before all others
+abbrev pub stands_first : List Rec → List (Place × List ℕ) → FrontTurn → FrontTurn
+stands_first notes messages t = record t { notes = notes ++ t.notes; messages = messages ++ t.messages }
+
+abbrev pub does_first : List Rec → List (Place × List ℕ) → FrontDeed → FrontDeed
+does_first notes messages Drops = Drops
+does_first notes messages (Says t) = Says (stands_first notes messages t)
+does_first notes messages (Does x) = Does (record x { turn = stands_first notes messages x.turn })
+
+-- what was read behind its return is said, or it is placed anew
+abbrev pub reads_on : FrontEnv → FrontPart → FrontRow → EndpointParts → FrontDeed
+reads_on env p row parts = heard env (back_part p row parts) (returned_row parts row) (back_rest parts) (adopted parts)
+
+abbrev pub returned_by : FrontEnv → FrontPart → List (Place × List ℕ) → Option FrontRow → Back → Option EndpointParts → FrontDeed
+returned_by env p said (Some row) (back.New next) (Some parts) = does_first (back_notes env.serve.c row) said (reads_on env p row parts)
+returned_by env p said (Some row) (back.New next) None = Drops
+returned_by env p said (Some row) back.Again parts = Says (front_saying said)
+returned_by env p said (Some row) back.Stale parts = Drops
+returned_by env p said None answer parts = Drops
+
+-- The front end takes it in the next epoch, and releases it; where an Offer of it awaits an answer, it does so no longer. It reads on, so
+-- that the next good request is placed anew.
+abbrev pub front_returned : FrontEnv → FrontPart → ℕ → ℕ → Option EndpointParts → FrontDeed
+front_returned env p from epoch given = returned_by env p (given_sent env.serve.c from epoch given) p.row (back_answer from epoch given p.row) (parts_back p given)
+
 -- ---- the head of the line
 
 -- A waiting connection is handed off as the dispatcher says, in the step in which another one ended.
@@ -354,6 +433,7 @@ pub data FrontGets : Type 0 where
   TakenBy : ℕ → ℕ → FrontGets  -- from this node, in this epoch, as the next two
   AskedBy : ℕ → ℕ → Ask → FrontGets
   EndedBy : ℕ → ℕ → Final → FrontGets
+  ReturnedBy : ℕ → ℕ → Option EndpointParts → FrontGets  -- refused, or given back with these parts
   FrontAdmits : FirstChoice → FrontPart × FrontTurn → FrontGets  -- and what comes of that
 
 abbrev pub front_rule : FrontEnv → FrontPart → FrontGets → FrontDeed
@@ -362,4 +442,5 @@ front_rule env p FrontFires = front_timer env p
 front_rule env p (TakenBy from epoch) = front_taken p epoch
 front_rule env p (AskedBy from epoch ask) = front_asked env p from epoch ask
 front_rule env p (EndedBy from epoch last) = front_ended env p from epoch last
+front_rule env p (ReturnedBy from epoch given) = front_returned env p from epoch given
 front_rule env p (FrontAdmits choice given) = Does (record { part = given.0; turn = given.1; calls = [] })

@@ -5,7 +5,8 @@ ghost use Rattle.std.specs.FinMap as table;
 ghost use Rattle.lard_base.specs.declared.limits.TheConstants.{MAX_SEGMENT_BYTES};
 ghost use Rattle.lard_rules.specs.Bounds.{HasTimer};
 ghost use Rattle.lard_rules.specs.Machine.{Steps, delivered, from_place, front_acts, lost, timer, machine_to_client, machine_to_front, to_place};
-ghost use Rattle.lard_stepping.specs.Sound.{HasRoom, IsSet, IsMachineSound};
+ghost use Rattle.lard_rules.specs.FrontSound.{MayClose};
+ghost use Rattle.lard_stepping.specs.Sound.{HasRoom, IsSet, IsMachineSound, MayReach, MayDeliver, MayHear};
 ghost use Rattle.lard_net.specs.Net.{IsSized, packet_at};
 
 use crate::acting::pass;
@@ -20,12 +21,13 @@ use lard_shared::Shared;
 use std::alloc::Global;
 
 /// The packet with this number comes to its place. After `NotSent` and `WasLost`, where none was sent with it or it was
-/// lost, everything is as it was. Without memory the journal is as it was.
+/// lost, everything is as it was. Without memory the journal is as it was. Where it closes a node, another one is open.
 #[tactic(auto, unfolding(lard_rules::specs::Machine::delivered))]
 pub fn deliver(machine: &mut Machine, alloc: Global, k: u32) -> Result<(), StepFault>
     requires room { HasRoom machine.old }
     requires sound { IsMachineSound machine.old }
     requires set { IsSet machine.old.config }
+    requires closes { MayDeliver machine.old (packet_at machine.old.net k) }
     ensures step { Steps (delivered machine.old k (packet_at machine.old.net k)) machine.old machine.new result }
     ensures sound { OnOk result (IsMachineSound machine.new) }
 {
@@ -56,6 +58,7 @@ fn bring(
     requires room { HasRoom machine.old }
     requires sound { IsMachineSound machine.old }
     requires set { IsSet machine.old.config }
+    requires closes { MayReach machine.old bytes.now from to }
     ensures ok { OnOk result (machine.new ≡ to_place machine.old k (record { from = from; to = to; bytes = bytes.now; lost = false }) to) }
     ensures sound { OnOk result (IsMachineSound machine.new) }
     ensures err { OnErr result (machine.new.journal ≡ machine.old.journal) }
@@ -86,6 +89,7 @@ fn to_front(
     requires room { HasRoom machine.old }
     requires sound { IsMachineSound machine.old }
     requires set { IsSet machine.old.config }
+    requires closes { MayHear machine.old bytes from }
     ensures ok { OnOk result (machine.new ≡ from_place machine.old k bytes from) }
     ensures sound { OnOk result (IsMachineSound machine.new) }
     ensures err { OnErr result (machine.new.journal ≡ machine.old.journal) }
@@ -132,6 +136,7 @@ fn message_comes(
     requires room { HasRoom machine.old }
     requires sound { IsMachineSound machine.old }
     requires set { IsSet machine.old.config }
+    requires closes { MayClose machine.old.front (FrontIn.Message from bytes) }
     ensures ok { OnOk result (machine.new ≡ front_acts machine.old (Event.Deliver k) (Rec.Got k ∷ []) (FrontIn.Message from bytes)) }
     ensures sound { OnOk result (IsMachineSound machine.new) }
     ensures err { OnErr result (machine.new.journal ≡ machine.old.journal) }

@@ -1,7 +1,7 @@
 //! The steps of the front end and of nodes: each does the rule of what comes to it, and all that it did is told.
 
 ghost use Rattle.std.specs.Prelude.{◌≡◌, ◌≤◌, ◌∷◌, [], length, OnOk, OnErr};
-ghost use Rattle.lard_rules.specs.FrontSound.{MayDrain};
+ghost use Rattle.lard_rules.specs.FrontSound.{MayClose};
 ghost use Rattle.lard_rules.specs.Machine.{front_acts, node_acts, node_at};
 ghost use Rattle.lard_front.specs.Bounds.{IsShort};
 ghost use Rattle.lard_stepping.specs.Sound.{HasRoom, IsSet, IsMachineSound};
@@ -25,7 +25,7 @@ pub fn front_acts(
     requires sound { IsMachineSound machine.old }
     requires set { IsSet machine.old.config }
     requires short { IsShort input }
-    requires drains { MayDrain machine.old.front input }
+    requires closes { MayClose machine.old.front input }
     ensures ok { OnOk result (machine.new ≡ front_acts machine.old event (listed own) input) }
     ensures sound { OnOk result (IsMachineSound machine.new) }
     ensures err { OnErr result (machine.new.journal ≡ machine.old.journal) }

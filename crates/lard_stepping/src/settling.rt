@@ -3,7 +3,7 @@
 ghost use Rattle.std.specs.Prelude.{◌≡◌, OnOk, OnErr};
 ghost use Rattle.lard_rules.specs.Bounds.{HasRule};
 ghost use Rattle.lard_rules.specs.Machine.{Steps};
-ghost use Rattle.lard_stepping.specs.Sound.{IsSet, IsMachineSound};
+ghost use Rattle.lard_stepping.specs.Sound.{IsSet, IsMachineSound, MayStep};
 ghost use Rattle.lard_settling.specs.Steps.{closing, inner_step, settle_begun, settle_closed};
 
 use crate::acting::{append, mark};
@@ -34,6 +34,7 @@ pub fn step_inside(machine: &mut Machine, alloc: Global, event: Event) -> Result
     requires ruled { HasRule event }
     requires sound { IsMachineSound machine.old }
     requires set { IsSet machine.old.config }
+    requires closes { MayStep machine.old event }
     ensures step { Steps (inner_step machine.old event) machine.old machine.new result }
     ensures sound { OnOk result (IsMachineSound machine.new) }
 {

@@ -3,7 +3,7 @@
 ghost use Rattle.std.specs.Prelude.{◌≡◌, OnOk};
 ghost use Rattle.lard_rules.specs.Bounds.{HasRule};
 ghost use Rattle.lard_rules.specs.Machine.{Steps, happens, limit_reached, machine_step};
-ghost use Rattle.lard_stepping.specs.Sound.{HasRoom, IsSet, IsMachineSound};
+ghost use Rattle.lard_stepping.specs.Sound.{HasRoom, IsSet, IsMachineSound, MayStep};
 
 use crate::{disks, nodes, packets, stations};
 use lard_base::Event;
@@ -17,6 +17,7 @@ pub fn machine_step(machine: &mut Machine, alloc: Global, event: Event) -> Resul
     requires ruled { HasRule event }
     requires sound { IsMachineSound machine.old }
     requires set { IsSet machine.old.config }
+    requires closes { MayStep machine.old event }
     ensures step { Steps (machine_step machine.old event) machine.old machine.new result }
     ensures sound { OnOk result (IsMachineSound machine.new) }
 {
@@ -44,6 +45,7 @@ fn happen(machine: &mut Machine, alloc: Global, event: Event) -> Result<(), Step
     requires room { HasRoom machine.old }
     requires sound { IsMachineSound machine.old }
     requires set { IsSet machine.old.config }
+    requires closes { MayStep machine.old event }
     ensures step { Steps (happens machine.old event) machine.old machine.new result }
     ensures sound { OnOk result (IsMachineSound machine.new) }
 {

@@ -1,10 +1,12 @@
-//! Two connections through every rule of a front end with room for one, with ample memory, and a node that is closed.
+//! Two connections through every rule of a front end with room for one, with ample memory, a node that is closed, and
+//! connections that come back.
 
 ghost use Rattle.std.specs.Prelude.{◌≡◌, ◌≤◌, length, IfOk, Ok, OnOk};
 ghost use Rattle.lard_base.specs.Config.{config_check};
 ghost use Rattle.lard_base.specs.declared.limits.TheConstants.{MAX_SEGMENT_BYTES, MAX_STREAM_BYTES};
 ghost use Rattle.lard_dispatch.specs.Sound.{AreBefore};
-ghost use Rattle.lard_rules.specs.FrontSound.{IsFrontSound, MayDrain};
+ghost use Rattle.lard_rules.specs.FrontSound.{IsFrontSound, MayClose, MayCloseOn};
+ghost use Rattle.lard_message.specs.Reading.{decoded_message};
 ghost use Rattle.lard_front.specs.Bounds.{IsShort};
 
 use lard_base::limits::MAX_SEGMENT_BYTES;
@@ -12,6 +14,7 @@ use lard_base::{Bytes, Config, ConnId, Millis, NoMemory, NodeId};
 use lard_files::Files;
 use lard_front::place::{begin, finish};
 use lard_front::step::{Setting, step};
+use lard_message::{Body, Message, MsgFault, decode};
 use lard_rules::{FrontIn, FrontState, Out};
 use lard_seq::Seq;
 use std::alloc::Global;
@@ -95,6 +98,28 @@ const DRAINED: &[(Input, Told)] = &[
     (Input::Message(ASK), (0, 0, 0, 0, 0)),
 ];
 
+const REFUSED: &[u8] = b"\x02\x03\x00\x01\x00\x02\x00\x00\x00\x00";
+
+const GIVE: &[u8] =
+    b"\x02\x0b\x00\x01\x00\x02\x00\x00\x00#\x00\x00\x03\xe8\x00\x00\x13\x88\x00\x00\x00\x1f\x00\x00\x00\x00,\xff\xff\x00\x00\x04\x08\x00\x00\x13\xb4\x05\xb4\x00\x00\x00\x01\x00\x00";
+
+/// A node that refuses a connection is closed, and the connection goes to the other one in the same step.
+const TURNED_AWAY: &[(Input, Told)] = &[
+    (Input::Segment(Client::First, SYN_1), (1, 1, 0, 0, 1)),
+    (Input::Segment(Client::First, GET_1), (2, 0, 1, 1, 2)),
+    (Input::Message(REFUSED), (5, 0, 1, 1, 0)),
+    (Input::Message(REFUSED), (0, 0, 0, 0, 0)),
+];
+
+/// One that gives it back is closed and answered, each time, and the client is told what is owed.
+const GIVEN_BACK: &[(Input, Told)] = &[
+    (Input::Segment(Client::First, SYN_1), (1, 1, 0, 0, 1)),
+    (Input::Segment(Client::First, GET_1), (2, 0, 1, 1, 2)),
+    (Input::Message(TAKEN), (0, 0, 0, 0, 1)),
+    (Input::Message(GIVE), (3, 1, 0, 1, 0)),
+    (Input::Message(GIVE), (0, 0, 0, 1, 0)),
+];
+
 fn number_of(others: &Others, client: Client) -> ConnId {
     match client {
         Client::First => others.first,
@@ -112,6 +137,33 @@ fn make_bytes(alloc: Global, bytes: &[u8]) -> Result<Bytes, NoMemory>
     Ok(Bytes::from_slice(alloc, bytes)?)
 }
 
+/// Nothing where another node is open, or where what the node says does not close it.
+fn check_message(
+    state: &FrontState,
+    alloc: Global,
+    from: NodeId,
+    bytes: &[u8],
+) -> Result<(), NoMemory>
+    ensures { OnOk result (MayCloseOn state.now from (decoded_message bytes.now)) }
+{
+    if state.dispatch.loads().has_other_open(from) {
+        return Ok(());
+    }
+    match decode(alloc, bytes) {
+        Ok(Message {
+            body: Body::Refused,
+            ..
+        }) => return Err(NoMemory),
+        Ok(Message {
+            body: Body::Give(_),
+            ..
+        }) => return Err(NoMemory),
+        Ok(_) => return Ok(()),
+        Err(MsgFault::NoMemory) => return Err(NoMemory),
+        Err(_) => return Ok(()),
+    }
+}
+
 /// What comes to the front end, where it may: the node is closed while another one is open.
 fn make_input(
     state: &FrontState,
@@ -120,7 +172,7 @@ fn make_input(
     input: Input,
 ) -> Result<FrontIn, NoMemory>
     ensures short { IfOk result IsShort }
-    ensures drains { IfOk result (MayDrain state.now) }
+    ensures closes { IfOk result (MayClose state.now) }
 {
     match input {
         Input::Segment(client, bytes) => {
@@ -129,7 +181,9 @@ fn make_input(
             return Ok(FrontIn::Segment { c, iss, bytes });
         }
         Input::Message(bytes) => {
-            let (from, bytes) = (others.node, Bytes::from_slice(alloc, bytes)?);
+            let from = others.node;
+            check_message(state, alloc, from, bytes)?;
+            let bytes = Bytes::from_slice(alloc, bytes)?;
             return Ok(FrontIn::Message { from, bytes });
         }
         Input::Timer(client) => return Ok(FrontIn::Timer(number_of(others, client))),
@@ -252,4 +306,16 @@ fn two_connections(rt: HostRuntime) {
 fn a_node_is_closed(rt: HostRuntime) {
     let others = make_others().expect(&rt, "numbers in range");
     assert_eq!(rt; run(rt.alloc(), &others, 2, DRAINED), Ok(None));
+}
+
+#[test]
+fn a_node_refuses(rt: HostRuntime) {
+    let others = make_others().expect(&rt, "numbers in range");
+    assert_eq!(rt; run(rt.alloc(), &others, 2, TURNED_AWAY), Ok(None));
+}
+
+#[test]
+fn a_node_gives_back(rt: HostRuntime) {
+    let others = make_others().expect(&rt, "numbers in range");
+    assert_eq!(rt; run(rt.alloc(), &others, 2, GIVEN_BACK), Ok(None));
 }

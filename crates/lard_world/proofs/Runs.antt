@@ -11,14 +11,15 @@ use Rattle.lard_base.specs.declared.place.Place.TheVariants as place
 use Rattle.lard_client.specs.Control.{ClientBlock, is_client_armed, written_len}
 use Rattle.lard_dispatch.specs.Tally.{has_other_open}
 use Rattle.lard_rules.specs.Bounds.{HasRule}
-use Rattle.lard_rules.specs.Machine.{Steps, client_acted, client_acts, client_goes_on, client_put, clocked, completes, delivered, disk_at, drained, from_place, front_acts, front_gave, front_setting, happens, is_no_job, is_no_node, limit_reached, lost, machine_step, node_acts, node_at, node_gave, node_setting, machine_opened, timer, passed, machine_to_client, machine_to_front, to_place, machine_told, told_rows, unless_limit, machine_wrote}
+use Rattle.lard_rules.specs.Machine.{IsReached, Steps, client_acted, client_acts, client_goes_on, client_put, clocked, completes, delivered, disk_at, drained, from_place, front_acts, front_gave, front_setting, happens, is_no_job, is_no_node, limit_reached, lost, machine_step, node_acts, node_at, node_gave, node_setting, machine_opened, timer, passed, machine_to_client, machine_to_front, to_place, machine_told, told_rows, unless_limit, machine_wrote}
 use Rattle.lard_rules.specs.declared.fault.StepFault.{StepFault}
 use Rattle.lard_rules.specs.declared.fault.StepFault.TheVariants.{Refused, Limit, NoMemory}
 use Rattle.lard_rules.specs.declared.machine.Machine.{Machine}
 use Rattle.lard_laws.specs.Lawful.{IsLawful}
 use Rattle.lard_laws.proofs.Lawful.{journals-lawful}
 use Rattle.lard_world.specs.Runs.{IsRun}
-use Rattle.lard_stepping.specs.Sound.{IsSet, IsMachineSound}
+use Rattle.lard_laws.proofs.RunsHear.{run-hears}
+use Rattle.lard_stepping.specs.Sound.{IsSet, IsMachineSound, MayReach, MayDeliver, MayHear, MayStep}
 use Rattle.lard_world.specs.World.{is_short}
 use Rattle.lard_stepping.proofs.Sound.{closed_sound}
 use Rattle.lard_files.specs.Files.{file_at}
@@ -47,7 +48,7 @@ use Rattle.lard_law_settles.specs.Enough.{RestsWithEnough}
 use Rattle.lard_law_settles.proofs.EnoughLaw.{settles-rest}
 use Rattle.lard_settling.specs.Settling.{BeginsByMark, IsFrontOf, is_mark}
 use Rattle.lard_settling.specs.Steps.{as_inner, inner_given, inner_step, settle_begun, settle_closed}
-use Rattle.lard_settling.specs.Written.{IsWrittenOut, written_out}
+use Rattle.lard_settling.specs.Written.{IsWrittenOut, told_as, written_out}
 use Rattle.lard_settling.proofs.Written.{given-done, written}
 
 -- ---- a step changes neither the numbers of the run nor its files, and takes no record back
@@ -308,3 +309,24 @@ pub closed-lawful : {E : Type 0} (old new : Machine) (rounds left : ℕ) (result
     → IsLawful old.config (file_at old.files) (written_out new.journal)
 closed-lawful old new rounds left (Ok done) run is same = subst (λ (m : Machine). IsLawful old.config (file_at old.files) (written_out m.journal)) (sym is) (run-lawful (settle_closed old rounds left) (closed-run old rounds left run))
 closed-lawful old new rounds left (Err fault) run is same = subst (λ (J : List Rec). IsLawful old.config (file_at old.files) (written_out J)) (sym same) (run-lawful old run)
+
+-- ---- what comes to the front end
+
+-- in a run without settles
+plain-hears : (config : Config) (files : List (List ℕ × List ℕ)) (m : Machine) (J : List Rec) (events : ℕ) → IsReached config files m → (e : Event) → MayStep (told_as m J events) e
+plain-hears config files m J events r (event.Deliver k) = go (packet_at m.net k) refl where
+  from-place : (p : Packet) → packet_at m.net k ≡ Some p → p.to ≡ place.Front → (from : Place) → p.from ≡ from → MayHear (told_as m J events) p.bytes from
+  from-place p at goal (place.Node n) sender = run-hears config files m r k p n at sender goal
+  from-place p at goal _ sender = tt
+
+  to-place : (p : Packet) → packet_at m.net k ≡ Some p → (to : Place) → p.to ≡ to → MayReach (told_as m J events) p.bytes p.from to
+  to-place p at place.Front goal = from-place p at goal p.from refl
+  to-place p at _ goal = tt
+
+  go : (o : Option Packet) → packet_at m.net k ≡ o → MayDeliver (told_as m J events) o
+  go None at = tt
+  go (Some p) at = to-place p at p.to refl
+plain-hears config files m J events r _ = tt
+
+pub run-steps : (m : Machine) → IsRun m → (e : Event) → MayStep m e
+run-steps m run e = subst (λ (n : Machine). MayStep n e) (sym run.reached.same) (plain-hears m.config m.files run.reached.plain m.journal m.events run.reached.reached e)

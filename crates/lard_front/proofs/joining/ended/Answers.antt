@@ -22,13 +22,8 @@ returns-in-None-clause-out c =
 
 pub admits_too-requires-clause-head : goal.admits_too-requires-clause-head
 admits_too-requires-clause-head c =
-    (ended_waits (front_setting_seen c.args.setting.now) c.args.state.now c.args.c c.args.from c.args.epoch.0 c.args.last c.requires.sound
-    c.in_ok-turn.ensures.turn (sym c.in-Some.is ∙ c.in_ok-turn.ensures.next)).0
-
-pub admits_too-requires-clause-some : goal.admits_too-requires-clause-some
-admits_too-requires-clause-some c =
-    (ended_waits (front_setting_seen c.args.setting.now) c.args.state.now c.args.c c.args.from c.args.epoch.0 c.args.last c.requires.sound
-    c.in_ok-turn.ensures.turn (sym c.in-Some.is ∙ c.in_ok-turn.ensures.next)).1
+    ended_waits (front_setting_seen c.args.setting.now) c.args.state.now c.args.c c.args.from c.args.epoch.0 c.args.last c.requires.sound
+    c.in_ok-turn.ensures.turn (sym c.in-Some.is ∙ c.in_ok-turn.ensures.next)
 
 pub returns-in-Some-clause-out : goal.returns-in-Some-clause-out
 returns-in-Some-clause-out c =

@@ -12,5 +12,5 @@ returns-clause-fits c =
       short = subst AreShort (sym segments) c.requires.behind.short;
       few = subst (λ ss. length ss ≤ 2 ^ 31) (sym segments) c.requires.behind.few;
       messages_fit = subst AreMessages (sym c.in_ok-append-4.ensures.ok) (both_fit c.args.turn.messages c.args.behind.messages c.requires.fits.messages_fit c.requires.behind.messages_fit);
-      counted = c.requires.fits.counted;
+      counted = c.requires.answered;
     }

@@ -2,7 +2,7 @@
 use Rattle.std.proofs.Common.{◌∙◌, ap, sym, subst}
 use Rattle.lard_laws.specs.Lawful.{IsLawful}
 use Rattle.lard_world.specs.World.{WorldStanding}
-use Rattle.lard_world.proofs.Runs.{inner-leads, runs-on, still-lawful}
+use Rattle.lard_world.proofs.Runs.{inner-leads, run-steps, runs-on, still-lawful}
 use Rattle.lard_files.specs.Files.{file_at}
 use Rattle.lard_settling.specs.Steps.{inner_step}
 use Rattle.lard_settling.specs.Written.{written_out}
@@ -13,6 +13,9 @@ step_inside-done-requires-clause-sound c = (c.self.invariant (ap (λ w. w.spoile
 
 pub step_inside-done-requires-clause-set : goal.step_inside-done-requires-clause-set
 step_inside-done-requires-clause-set c = (c.self.invariant (ap (λ w. w.spoiled) c.self.view_is ∙ c.requires.usable)).set
+
+pub step_inside-done-requires-clause-closes : goal.step_inside-done-requires-clause-closes
+step_inside-done-requires-clause-closes c = run-steps c.self.inside.machine (c.self.invariant (ap (λ w. w.spoiled) c.self.view_is ∙ c.requires.usable)) c.args.event
 
 pub invariant_of-self : goal.invariant_of-self
 invariant_of-self c = λ usable.

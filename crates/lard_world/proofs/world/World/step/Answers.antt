@@ -3,7 +3,7 @@ use Rattle.std.proofs.Common.{◌∙◌, ap, sym, subst}
 use Rattle.lard_rules.specs.Machine.{machine_step}
 use Rattle.lard_laws.specs.Lawful.{IsLawful}
 use Rattle.lard_world.specs.World.{WorldStanding}
-use Rattle.lard_world.proofs.Runs.{runs-on, step-leads, still-lawful}
+use Rattle.lard_world.proofs.Runs.{run-steps, runs-on, step-leads, still-lawful}
 use Rattle.lard_files.specs.Files.{file_at}
 use Rattle.lard_settling.specs.Written.{written_out}
 use Rattle.lard_world.proofs.world.World.step.Goals as goal
@@ -13,6 +13,9 @@ machine_step-done-requires-clause-sound c = (c.self.invariant (ap (λ w. w.spoil
 
 pub machine_step-done-requires-clause-set : goal.machine_step-done-requires-clause-set
 machine_step-done-requires-clause-set c = (c.self.invariant (ap (λ w. w.spoiled) c.self.view_is ∙ c.requires.usable)).set
+
+pub machine_step-done-requires-clause-closes : goal.machine_step-done-requires-clause-closes
+machine_step-done-requires-clause-closes c = run-steps c.self.inside.machine (c.self.invariant (ap (λ w. w.spoiled) c.self.view_is ∙ c.requires.usable)) c.args.event
 
 pub invariant_of-self : goal.invariant_of-self
 invariant_of-self c = λ usable.

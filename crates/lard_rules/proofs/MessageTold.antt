@@ -1,10 +1,16 @@
 -- A message that was read is in the ranges of its table.
 use Rattle.std.proofs.Common.{◌≡◌, ℕ, ◌+◌, ◌==◌, ◌&&◌, not, nat_lt, nat_le, Bool, true, false, cond, List, length, Option, Some, None, Result, Ok, Err, drop}
 use Rattle.std.proofs.lemmas.Bool.{cond_both}
-use Rattle.lard_law_view.specs.Prelude.{Body, IsOfTable, Kind, Message, MsgFault, body_at, connection_at, decoded_message, epoch_at, is_of_table, is_version, kind_named, length_at, number_byte, version_at, with_body, with_kind}
 use Rattle.lard_base.specs.declared.ids.TheConstants.ConnId.{MAX}
 use Rattle.lard_message.proofs.Tables.{table_passed}
+use Rattle.lard_message.specs.declared.fault.MsgFault.{MsgFault}
 use Rattle.lard_message.specs.declared.fault.MsgFault.TheVariants as fault
+use Rattle.lard_message.specs.declared.kind.Kind.{Kind}
+use Rattle.lard_message.specs.declared.message.Body.{Body}
+use Rattle.lard_message.specs.declared.message.Message.{Message}
+use Rattle.lard_message.specs.Kinds.{is_version, kind_named}
+use Rattle.lard_message.specs.Message.{IsOfTable}
+use Rattle.lard_message.specs.Reading.{body_at, connection_at, decoded_message, epoch_at, is_of_table, length_at, number_byte, version_at, with_body, with_kind}
 
 abbrev pub IsTold : Result Message MsgFault → Type 0
 IsTold (Ok m) = IsOfTable m.body
