@@ -147,7 +147,7 @@ module _ (k : Setting) (x : Conn) (at_place : IsPlaced x) (h : IsLimited k.strea
           old = inr (λ m d offered.
               let o = it.offered m d offered in
               inl (subst (λ (j : ℕ). IsDecided d (node_put_back nodes n q j).row) (sym o.0)
-                  (subst (λ (r : NodePart). IsDecided d r.row) (sym (put-same nodes n q)) (row-decided part work given.0 d o.1))));
+              (subst (λ (r : NodePart). IsDecided d r.row) (sym (put-same nodes n q)) (row-decided part work given.0 d o.1))));
           letters = Each-append (LetterCounts k.stream then v.part) (map (letter (Node n)) given.1.segments) (map (letter (Node n)) (turn_by env before work given).messages)
               (node-letters k.stream then v.part n given.1.segments) (node-letters k.stream then v.part n (turn_by env before work given).messages);
         }

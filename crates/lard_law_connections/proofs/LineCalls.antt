@@ -247,7 +247,7 @@ module _ (k : FrontSetting) (s : FrontState) (sound : IsFrontSound s) where
       let said : List (Place × List ℕ) = given_sent c from epoch given in
       comes-keeps k s sound from c epoch given Calls (still-calls nothing_done) (still-calls (front_out_of (front_saying said) []))
       (λ row parts away are. returned-calls from c said row parts (from, away.stands) other
-        (read-on k s from c row parts sound other away (back-valid (front_part s c) given parts valid are)))
+      (read-on k s from c row parts sound other away (back-valid (front_part s c) given parts valid are)))
 
   told-calls : (from c epoch : ℕ) (b : Body) → MayCloseBy s from b → IsOfTable b → Calls (front_told k s from c epoch b)
   told-calls from c epoch body.Taken may table = deed-calls c (front_taken (front_part s c) epoch)

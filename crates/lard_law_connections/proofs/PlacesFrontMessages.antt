@@ -174,7 +174,7 @@ module _ (k : Setting) (x : Conn) (heads : List Seen) (quiet : IsQuiet x heads) 
         λ i e offers.
             let o : Offers i e (stage.Offering n d) = subst (Offers i e) at offers in
             inr (inl (subst (λ (j : ℕ). HasStay e (nodes j).row) o.0 (subst (λ (f : ℕ). HasStay f (nodes n).row) (sym sits.1 ∙ o.1)
-                (there-stay n row.epoch.0 w (nodes n).row there)))),
+            (there-stay n row.epoch.0 w (nodes n).row there)))),
       ))
       tt
 

@@ -84,15 +84,17 @@ offered-grows nodes n e o r g h = ⊎_elim
 -- while it is offered to a node that refused it, that takes it no more
 told-grows : (p q : Part) (n e : ℕ) → Grows p q → IsRefusalTold p n e → IsRefusalTold q n e
 told-grows p q n e g h =
-    let refused : IsRefusedBy e (q.nodes n) = g.refusals n e h.0 in
-    (refused, ⊎_elim
-    (λ (ended : HasEnded e p.front.row). inl (ended-grows q.nodes e p.front.row q.front.row g.front ended))
-    (λ (offered : IsOffered n e p.front.row). ⊎_elim
-    (λ (still : IsOffered n e q.front.row). inr still)
-    (λ (other : HasStay e (q.nodes n).row ⊎ IsRefusalKnown q n e). ⊎_elim
-    (λ (stay : HasStay e (q.nodes n).row). absurd (stay-other e (q.nodes n).row stay refused.1))
-    (λ (known : IsRefusalKnown q n e). inl known.1) other)
-    (offered-goes q.nodes n e p.front.row q.front.row g.front offered)) h.1)
+    let refused : IsRefusedBy e (q.nodes n) = g.refusals n e h.0 in (
+      refused,
+      ⊎_elim
+          (λ (ended : HasEnded e p.front.row). inl (ended-grows q.nodes e p.front.row q.front.row g.front ended))
+          (λ (offered : IsOffered n e p.front.row). ⊎_elim
+          (λ (still : IsOffered n e q.front.row). inr still)
+          (λ (other : HasStay e (q.nodes n).row ⊎ IsRefusalKnown q n e). ⊎_elim
+          (λ (stay : HasStay e (q.nodes n).row). absurd (stay-other e (q.nodes n).row stay refused.1))
+          (λ (known : IsRefusalKnown q n e). inl known.1) other)
+          (offered-goes q.nodes n e p.front.row q.front.row g.front offered)) h.1,
+    )
 
 offer-grows : (p q : Part) (n e : ℕ) → Grows p q → FrontSaid p n e kind.Offer → FrontSaid q n e kind.Offer
 offer-grows p q n e g h = ⊎_elim

@@ -215,7 +215,7 @@ module _ (d : Dispatcher) (ins : List ℕ) (in_ : AreIn ins d.books.loads.standi
         → (f : First) → env.first path ≡ f → TellsOf (Does (placed env p row rest w path f))
     by-place free row rest w path asides f is = placed-tells sound env free p row rest w path asides f
         (subst (λ f. Answers sound env free p row rest w path asides f (after_first d env.serve.c path env.now)) (sym (of.first path) ∙ is)
-          (answers sound env free p row rest w path asides))
+        (answers sound env free p row rest w path asides))
 
     -- one that stands nowhere is held with what was read of it, or placed
     pub settled-tells : standing ≡ nowhere → (row : FrontRow) (rest : FrontRest) (w : Service) → Each IsAside w.notes

@@ -66,7 +66,7 @@ module _ (k : FrontSetting) (d : Dispatcher) (sound : IsDispatcherSound d) (ins 
   alone-tells none = record {
     leads = subst (λ (l : List Waiting). Leads d.config k.now ins b (notes ++ []) (books_with l)) (sym none)
         (both-lead d.config k.now ins b (released_from d.books c) (released_from d.books c) notes [] released
-          (aside-leads d.config k.now released.more (released_from d.books c) released.in_ [] tt));
+        (aside-leads d.config k.now released.more (released_from d.books c) released.in_ [] tt));
     gave = tt;
     timers = λ rs asides. asides;
     lined = subst (λ (l : List Waiting). AreLined (targets after) (books_with l).line) (sym none) lined;
@@ -124,8 +124,8 @@ module _ (k : FrontSetting) (d : Dispatcher) (sound : IsDispatcherSound d) (ins 
       handed-tells = record {
         leads = subst (λ (l : List Waiting). Leads d.config k.now ins b all_notes (books_with l)) (sym line)
             (subst (λ (p : List ℕ). Leads d.config k.now ins b (notes ++ head_notes (count + 1) p) (books_with (w ∷ ws))) (sym same)
-              (both-lead d.config k.now ins b (released_from d.books c) (books_with (w ∷ ws)) notes (head_notes (count + 1) w.target) released
-                (head-leads (count + 1))));
+            (both-lead d.config k.now ins b (released_from d.books c) (books_with (w ∷ ws)) notes (head_notes (count + 1) w.target) released
+            (head-leads (count + 1))));
         gave = (tt, tt);
         timers = λ rs asides. ordered-aside c w.c rs (front_timers w.c (front_part after w.c) handed.0) asides
             (timers-aside w.c (front_part after w.c) handed.0);
@@ -135,7 +135,7 @@ module _ (k : FrontSetting) (d : Dispatcher) (sound : IsDispatcherSound d) (ins 
             (passed-ordered w ws before c (count + 1) path choice.node choice.add choice.remove neither);
         waits = subst (λ (l : List Waiting). Leaves l all_notes (books_with l).line) (sym line)
             (both-leave (w ∷ ws) (w ∷ ws) ws notes (head_notes (count + 1) path) (idle-leaves (w ∷ ws) notes all-idle)
-              (λ ys within. head-within w ws ys apart.1 within));
+            (λ ys within. head-within w ws ys apart.1 within));
         sound = still-sound;
         full = λ some. head-full d c k.now in_ w ws line sound;
         first = λ path. sym (ap (λ (b : Bool). cond b first.Waits (first.Go (choice_at d.config After.books path k.now)))

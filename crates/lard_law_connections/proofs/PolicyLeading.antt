@@ -78,7 +78,7 @@ module _ (cfg : Config) (now : Millis) (ins : List ℕ) (b : Books) (in_ : AreIn
   -- it is released where it comes back from a node that was open: that is closed before
   pub return-leads : (n c : ℕ) (epoch : Epoch) → is_open b.loads n ≡ true → has_other_open b.loads n ≡ true → is_some (map.get b.loads.standings c) ≡ true
       → Leads cfg now ins b (rec.Took Front c epoch ∷ rec.Closed n ∷ rec.Released c ∷ [])
-          (released_from (record b { loads = tally_closed b.loads n; sets = sets_closed b.sets n }) c)
+      (released_from (record b { loads = tally_closed b.loads n; sets = sets_closed b.sets n }) c)
   return-leads n c epoch opened other there = record {
     more = filter (λ d. not (nat_eq c d)) ins;
     then = refl;

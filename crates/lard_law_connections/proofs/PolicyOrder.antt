@@ -80,7 +80,7 @@ passed-ordered w ws xs c r path n add remove before = record {
       (Each-append (AdmitsFirst line) xs released (Each-weaker IsNeither (AdmitsFirst line) (neither-first line) xs before) (tt, tt)) (refl, (tt, tt));
   passes = Each-append (PassesOn line all) (xs ++ released) heads
       (Each-append (PassesOn line all) xs released (Each-weaker IsNeither (PassesOn line all) (neither-passes line all) xs before)
-        (has-behind (rec.Admitted w.c) (xs ++ released) heads (inl refl), tt)) (tt, (tt, tt));
+      (has-behind (rec.Admitted w.c) (xs ++ released) heads (inl refl), tt)) (tt, (tt, tt));
 } where
   line : List Waiting
   line = w ∷ ws

@@ -94,7 +94,7 @@ module _ (k : FrontSetting) (s : FrontState) (sound : IsFrontSound s) (lined : A
         (head-tells k s.dispatch sound.books ins s.dispatch.books c admitted_ (put_back s c did)
         (put-lined s c did.part (ap (λ (x : DispatchStanding). x.waits) admitted_.1) lined) (rec.Took place.Front c (next_epoch row) ∷ []) ((λ ys. refl), tt) (tt, tt)
         (release-leads s.dispatch.config k.now ins s.dispatch.books in_ c (next_epoch row)
-          (is-in s.dispatch.books.loads c (may-end s.dispatch c k.now admitted_)))
+        (is-in s.dispatch.books.loads c (may-end s.dispatch c k.now admitted_)))
         (open_nodes_of s.dispatch) (head-waiting k s sound c did admitted_))
 
   ended-tells : (c from epoch : ℕ) (last : Final) → Fine (ended_deed k s c (front_ended (front_env k s c 0) (front_part s c) from epoch last))

@@ -101,7 +101,7 @@ IsAsked files s (Some rest) = (s.stay.asks ≡ rest.asks + 1) ⊎ ((s.stay.asks 
 pub record ComesBackKnown (x : Conn) : Type 0 where
   pub refused : (n e count : ℕ) → seat_of x.part ≡ Refused n e count
       → (row : FrontRow) × (x.part.front.row ≡ Some row) × (row.stage ≡ stage.Offering n (record { 0 = e })) × (parts : EndpointParts)
-          × (parts_kept x.part.front.kept ≡ Some parts)
+      × (parts_kept x.part.front.kept ≡ Some parts)
   pub returns : (n e : ℕ) (given : Option EndpointParts) (bytes : List ℕ) → SpellsMessage x.c e (back_body given) bytes → Was x (Node n) Front bytes
       → (row : FrontRow) (parts : EndpointParts) → IsBack x.part.front n e given row parts → (row.epoch.0 ≡ e) × IsFrom given n e parts.served (seat_of x.part)
   pub given : (told : Bool) (n e served : ℕ) → seat_of x.part ≡ Returned told n e served → (row : FrontRow) → x.part.front.row ≡ Some row → row.epoch.0 ≡ e

@@ -206,8 +206,8 @@ module _ (k : Setting) (w : Whole) (x : Conn) (bytes : List ℕ) (st : Station) 
   placed-owes path (first.Go choice) lasts later =
       apart (seat_away false choice.node (next_epoch row).0 q.count (x.part.nodes choice.node))
       (away-cases false choice.node (next_epoch row).0 q.count (x.part.nodes choice.node)
-          (λ (z : SeatNow). post_of k.files st.client z ≡ post_of k.files st.client (Held b rest.count) → ⊥) (λ f. cc) (λ f. cc) (λ c f. cc) (λ f. cc)
-          (λ served f. cc))
+      (λ (z : SeatNow). post_of k.files st.client z ≡ post_of k.files st.client (Held b rest.count) → ⊥) (λ f. cc) (λ f. cc) (λ c f. cc) (λ f. cc)
+      (λ served f. cc))
       (does k w x bytes (Does (placed env x.part.front row rest q path (first.Go choice)))) was (offered path choice.node) lasts
   placed-owes path first.Waits lasts later =
       let g = spoken env.serve (record q { notes = q.notes ++ rec.Waits env.serve.c ∷ [] }) [] in

@@ -72,7 +72,7 @@ module _ (k : Setting) (w : Whole) (x : Conn) (env : FrontEnv) (is_env : IsFront
       let row = f.0 in
       let answer : back_answer n epoch (Some parts) p.row ≡ back.New (next_epoch row) = ap (back_answer n epoch (Some parts)) f.1
       ∙ (λ i. cond (f.2 i) (cond (f.3 i) (back.New (next_epoch row)) (cond (nat_lt epoch row.epoch.0) back.Again back.Stale))
-          (cond (nat_lt epoch row.epoch.0) back.Again back.Stale)) in
+      (cond (nat_lt epoch row.epoch.0) back.Again back.Stale)) in
       let taken : deed ≡ does_first (back_notes env.serve.c row) (given_sent env.serve.c n epoch (Some parts)) (reads_on env p row parts) =
       ap (front_returned env p n epoch) some ∙ (λ i. returned_by env p (given_sent env.serve.c n epoch (Some parts)) (f.1 i) (answer i) (Some parts)) in
       never-drops env p (given_sent env.serve.c n epoch (Some parts)) row parts (sym taken ∙ drops)
@@ -80,7 +80,7 @@ module _ (k : Setting) (w : Whole) (x : Conn) (env : FrontEnv) (is_env : IsFront
       let f = given.back.refused n epoch count seat in
       let row = f.0 in
       let offered : (s : FrontConn) → s ≡ stage.Offering n (record { 0 = epoch })
-          → cond (is_with n epoch s) (cond (is_some (offered_to epoch s)) (back.New (next_epoch row)) back.Stale) back.Stale ≡ back.New (next_epoch row) =
+      → cond (is_with n epoch s) (cond (is_some (offered_to epoch s)) (back.New (next_epoch row)) back.Stale) back.Stale ≡ back.New (next_epoch row) =
       λ s is. ap (λ (s : FrontConn). cond (is_with n epoch s) (cond (is_some (offered_to epoch s)) (back.New (next_epoch row)) back.Stale) back.Stale) is
       ∙ (λ i. cond (self n i && self epoch i) (cond (is_some (cond (self epoch i) (Some n) None)) (back.New (next_epoch row)) back.Stale) back.Stale) in
       let answer : back_answer n epoch None p.row ≡ back.New (next_epoch row) = ap (back_answer n epoch None) f.1 ∙ offered row.stage f.2 in
@@ -150,10 +150,10 @@ module _ (k : Setting) (w : Whole) (x : Conn) (env : FrontEnv) (is_env : IsFront
     offered-not v path node = away-cases false node (next_epoch next).0 v.count (x.part.nodes node) (λ (z : SeatNow). IsLeft (post_of k.files st.client z) → ⊥)
         (neither _ (λ m d f. cc) (λ t m d f. cc))
         (λ h. ⊎_elim (λ (f : Declined node (row.epoch.0 + 1 + 1) ≡ Declined n epoch). later-not cc)
-            (λ (f : (told : Bool) × (Declined node (row.epoch.0 + 1 + 1) ≡ GaveBack told n epoch)). let g = f.1 in cc) h)
+        (λ (f : (told : Bool) × (Declined node (row.epoch.0 + 1 + 1) ≡ GaveBack told n epoch)). let g = f.1 in cc) h)
         (λ b. neither _ (λ m d f. cc) (λ t m d f. cc)) (neither _ (λ m d f. cc) (λ t m d f. cc))
         (λ served h. ⊎_elim (λ (f : GaveBack false node (row.epoch.0 + 1 + 1) ≡ Declined n epoch). cc)
-            (λ (f : (told : Bool) × (GaveBack false node (row.epoch.0 + 1 + 1) ≡ GaveBack told n epoch)). let g = f.1 in later-not cc) h)
+        (λ (f : (told : Bool) × (GaveBack false node (row.epoch.0 + 1 + 1) ≡ GaveBack told n epoch)). let g = f.1 in later-not cc) h)
 
     abbrev said : List (Place × List ℕ)
     said = given_sent env.serve.c n epoch parts_given
@@ -175,9 +175,9 @@ module _ (k : Setting) (w : Whole) (x : Conn) (env : FrontEnv) (is_env : IsFront
       → Owes k w x n bytes (Says (front_saying (given_sent env.serve.c n epoch (Some parts))))
   again-owes st was parts some out =
       let give : SpellsMessage x.c epoch (body.Give parts) bytes = subst
-          (λ (o : Option EndpointParts). SpellsMessage x.c epoch (back_body o) bytes) some spells in
+      (λ (o : Option EndpointParts). SpellsMessage x.c epoch (back_body o) bytes) some spells in
       one-owes k w x n bytes st was (Says (front_saying (given_sent env.serve.c n epoch (Some parts))))
-          (message env.serve.c epoch body.Given) epoch body.Given refl
+      (message env.serve.c epoch body.Given) epoch body.Given refl
       (reads x.c env.serve.c epoch body.Given is_env.number number (given.back.gives n epoch parts bytes give sent) tt tt)
       (λ z seat. let one : chain (at_seat k.files x.part st z) x.c (l k w x n bytes) ≡ 1 = ap (of_message (λ m. node_chain m.body)) give in omega (arith, one))
       (λ z seat d near. absurd (out (subst IsComing (sym seat) (is-coming st z (suc d) (near-said (at_seat k.files x.part st z) (suc d) near)))))
@@ -195,7 +195,7 @@ module _ (k : Setting) (w : Whole) (x : Conn) (env : FrontEnv) (is_env : IsFront
     by-station : (o : Option Station) → x.part.station ≡ o → Owes k w x n bytes deed
     by-station None none =
         subst (λ (o : Option FrontRow). Owes k w x n bytes (returned_by env p (given_sent env.serve.c n epoch parts_given) o
-            (back_answer n epoch parts_given o) (parts_back p parts_given))) (sym (given.unopened none))
+        (back_answer n epoch parts_given o) (parts_back p parts_given))) (sym (given.unopened none))
         (unopened-owes k w x n bytes none)
     by-station (Some st) was = returned-keeps env p (λ (d : FrontDeed). deed ≡ d → Owes k w x n bytes d)
         (λ same. drops-owes k w x n bytes st was (λ z seat d near.

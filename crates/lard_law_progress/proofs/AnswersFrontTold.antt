@@ -29,7 +29,7 @@ module _ (k : Setting) (w : Whole) (x : Conn) (given : FrontGiven k.files w x) (
   unawaited : (xc : ClientBlock) (c : FrontConn) → offered_to epoch c ≡ None → (d : ℕ) → NearTaken d epoch (post_of k.files xc (seat_in x.part.front x.part.nodes c)) → ⊥
   unawaited xc (stage.Offering m e) none d near =
       away-cases false m e.0 (front_rest x.part.front.rest).count (x.part.nodes m) (λ (z : SeatNow). NearTaken d epoch (post_of k.files xc z) → ⊥)
-          (λ near. near) (λ near. near) (λ b near. differ near.0) (λ near. differ near.0)
+      (λ near. near) (λ near. near) (λ b near. differ near.0) (λ near. differ near.0)
       (λ served near. differ near.0) near
     where
       differ : e.0 ≡ epoch → ⊥

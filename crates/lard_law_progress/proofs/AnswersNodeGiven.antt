@@ -38,7 +38,7 @@ pub record NodeGiven (k : Setting) (w : Whole) (x : Conn) : Type 0 where
   -- an Offer that is new to its node is the one that the front end makes
   pub news : (n e : ℕ) (parts : EndpointParts) (bytes : List ℕ) → SpellsMessage x.c e (body.Offer parts) bytes → Was x Front (Node n) bytes → offer_answer e (x.part.nodes n).row ≡ New
       → (row : FrontRow) × (x.part.front.row ≡ Some row) × (row.stage ≡ stage.Offering n (record { 0 = e }))
-          × (is_this_epoch e (x.part.nodes n).beside.refused ≡ false)
+      × (is_this_epoch e (x.part.nodes n).beside.refused ≡ false)
   -- INTERIM: no node refuses a connection, so none that was refused is offered again
   pub unrefused : (n e count : ℕ) → seat_of x.part ≡ Refused n e count → ⊥
   -- a node to which a connection is offered had none of it before

@@ -77,7 +77,7 @@ module _ (files : FilesAt) (p : Part) (st : Station) (n e : ℕ) (fresh : (n e c
 
 module _ (files : FilesAt) (p : Part) (st : Station) (n : ℕ) (env : NodeEnv) (row : FrontRow) (front : p.front.row ≡ Some row) (with_ : IsWith false n env.epoch row.stage)
     (is_new : offer_answer env.epoch (p.nodes n).row ≡ adopt.New) (unrefused : is_this_epoch env.epoch (p.nodes n).beside.refused ≡ false)
-        (before : List (Place × List ℕ)) (w : Work) where
+    (before : List (Place × List ℕ)) (w : Work) where
   abbrev q : NodePart
   q = p.nodes n
 

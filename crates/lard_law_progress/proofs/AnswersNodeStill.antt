@@ -60,7 +60,7 @@ module _ (files : FilesAt) (p : Part) (st : Station) (told : Bool) (n : ℕ) (b 
         let after = kept_after env pp w (ending.Over last) in
         over-apart told n env.epoch after.beside.returned
         (sym (ap (post_of files x) (seat-put p n env.epoch told h.front after h.row h.with_
-            ∙ away-over told n env.epoch (front_rest p.front.rest).count after refl)) ∙ post)
+        ∙ away-over told n env.epoch (front_rest p.front.rest).count after refl)) ∙ post)
       where
         over-apart : (t : Bool) (m e : ℕ) (o : Option ℕ) → IsPost (post_of files x (seat_over_by t m e o)) → ⊥
         over-apart t m e None f = cc

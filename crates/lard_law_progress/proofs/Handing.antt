@@ -86,7 +86,7 @@ module _ (k : Whole) (K : ℕ) (files : FilesAt) (p : Part) (st : Station) where
         → To (with_node p n q)
     over-there q is none =
         let seat : seat_of (with_node p n q) ≡ Gone false n env.epoch = seat-put p n env.epoch false row q front with_
-            ∙ away-ended false n env.epoch count q is none in
+        ∙ away-ended false n env.epoch count q is none in
         let e = ended-untaken x.phase in let more = tellers-put p.nodes n q K in let one = tells-one q in
         falls k K files p (with_node p n q) st (Offered n env.epoch count) (Gone false n env.epoch) offered seat (omega (arith, e, more, one))
 

@@ -143,7 +143,7 @@ module _ (k : Setting) (all : ℕ → Whole) where
         node-deed x n (job_notes x.c n g) heads d
         (λ st at. let known = m.given st at in
         rule-lasts (all x.c) k.nodes k.files x.part st n env known.seat known.heard (known.homes n env.epoch) (known.unreturned n env.epoch)
-            (known.there n) g in_its
+        (known.there n) g in_its
         (expected x n epoch env heads g is comes m (came-by x (node-heads x n heads d) came) st at)) after;
     aside = λ x n a may m after inner came. idles k (all x.c) x (stands x (Node n) (aside_seen n a) (aside_said k n x.c a)) refl;
   })

@@ -65,10 +65,13 @@ new-row n e count q o unrefused = by o where
 
     go : (b : Bool) → (r.epoch.0 == e) ≡ b → cond b Again (cond (nat_lt r.epoch.0 e && is_gone r.stage) New Stale) ≡ New
         → (cond b (seat_there false n e count q r.stage) (seat_untaken n e count q) ≡ Offered n e count)
-            × (◌≡◌ {A = ℕ} (cond (is_some (telling r.stage r.epoch.0)) 1 0) 0)
+        × (◌≡◌ {A = ℕ} (cond (is_some (telling r.stage r.epoch.0)) 1 0) 0)
     go true t h = absurd (let bad : Again ≡ New = h in cc)
-    go false t h = (untaken, ap (λ (o : Option ℕ). cond {A = ℕ} (is_some o) 1 0)
-        (gone-tells r.stage r.epoch.0 (left (nat_lt r.epoch.0 e && is_gone r.stage) refl h)))
+    go false t h = (
+      untaken,
+      ap (λ (o : Option ℕ). cond {A = ℕ} (is_some o) 1 0)
+          (gone-tells r.stage r.epoch.0 (left (nat_lt r.epoch.0 e && is_gone r.stage) refl h)),
+    )
 
 module _ (w : Whole) (K : ℕ) (files : FilesAt) (p : Part) (st : Station) (n : ℕ) (env : NodeEnv) where
   abbrev x : ClientBlock
@@ -164,7 +167,7 @@ module _ (w : Whole) (K : ℕ) (files : FilesAt) (p : Part) (st : Station) (n : 
       let h : SeatKnown w x (Here false n env.epoch d (staying_of z)) = subst (SeatKnown w x) now there in
       h.1))
       (λ last same there. over-there w K files p st n o.row env o.front o.with_ offered free.1 (kept_after env q v (serving_settled env.serve v.service).0)
-          (ap (λ (e : Ending). (kept_after env q v e).row) same) (ap (λ (e : Ending). (kept_after env q v e).beside.returned) same ∙ o.unreturned))
+      (ap (λ (e : Ending). (kept_after env q v e).row) same) (ap (λ (e : Ending). (kept_after env q v e).beside.returned) same ∙ o.unreturned))
       refl behind
 
   -- ---- the end of its stay is known
@@ -177,12 +180,12 @@ module _ (w : Whole) (K : ℕ) (files : FilesAt) (p : Part) (st : Station) (n : 
         (λ t.
         let a : seat_away told m e count z ≡ cond (row.epoch.0 == e) (seat_over told m e q) (seat_untaken m e count q) =
         ap (seat_decided told m e count z) now ∙ ap (λ (b : Beside). cond (row.epoch.0 == e) (seat_over_by told m e b.returned)
-            (cond (is_this_epoch e b.refused) (Refused m e count) (Offered m e count))) same_beside in
+        (cond (is_this_epoch e b.refused) (Refused m e count) (Offered m e count))) same_beside in
         let b : seat_away told m e count (p.nodes m) ≡ seat_away told m e count q = ap (λ i. seat_away told m e count (p.nodes i)) (eqb-true m n t) in
         let c : seat_away told m e count q ≡ cond (row.epoch.0 == e) (seat_there told m e count q row.stage) (seat_untaken m e count q) = ap
-            (seat_decided told m e count q) was in
+        (seat_decided told m e count q) was in
         let d : cond (row.epoch.0 == e) (seat_there told m e count q row.stage) (seat_untaken m e count q) ≡ cond (row.epoch.0 == e) (seat_over told m e q)
-            (seat_untaken m e count q) =
+        (seat_untaken m e count q) =
         ap (λ (s : SeatNow). cond (row.epoch.0 == e) s (seat_untaken m e count q)) (ended-there told m e count q row.stage ended) in
         a ∙ sym (b ∙ c ∙ d))
         (λ t. refl)

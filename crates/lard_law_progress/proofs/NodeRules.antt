@@ -46,7 +46,7 @@ module _ (k : Whole) (K : ℕ) (files : FilesAt) (p : Part) (st : Station) (n : 
       → To [] (record q { kept = without kind.Ask 0 q.kept }) (goes_on env (tagged env nodes (work_of b s.stay)))
   tagged-lasts nodes asked fits =
       done (without kind.Ask 0 q.kept) q.fetches (goes_on env (tagged env nodes (work_of b s.stay))) (tagged-works st.client env b s nodes asked) []
-          (record q { kept = without kind.Ask 0 q.kept }) refl refl unreturned fits
+      (record q { kept = without kind.Ask 0 q.kept }) refl refl unreturned fits
 
   pub content-lasts : (from r : ℕ) → is_some (find (is_under kind.Fetch r) q.fetches) ≡ true → Then (goes_on env (came_for (come_progress from) r (work_of b s.stay)))
       → To [] (record q { fetches = without kind.Fetch r q.fetches }) (goes_on env (came_for (come_progress from) r (work_of b s.stay)))
@@ -76,7 +76,7 @@ takes-on env parts =
 
 module _ (k : Whole) (K : ℕ) (files : FilesAt) (p : Part) (st : Station) (n : ℕ) (row : FrontRow) (env : NodeEnv) (front : p.front.row ≡ Some row) (with_ : IsWith false n env.epoch row.stage)
     (offered : seat_of p ≡ Offered n env.epoch (front_rest p.front.rest).count) (quiet : tells (p.nodes n) ≡ 0)
-        (unreturned : (p.nodes n).beside.returned ≡ None) where
+    (unreturned : (p.nodes n).beside.returned ≡ None) where
   -- Nothing was kept there of it. The Offer has the endpoint as the front end counts, and what the client took was acknowledged to it.
   pub offered-lasts : (parts : EndpointParts) → (p.nodes n).kept ≡ [] → (p.nodes n).fetches ≡ [] → parts.served ≡ (front_rest p.front.rest).count → symbols_taken st.client ≤ parts.una
       → ((taking env parts).service.over ≡ None → read_of (taking env parts) ≤ k.requests)

@@ -211,7 +211,7 @@ module _ (w : Whole) (K : ℕ) (files : FilesAt) (p : Part) (st : Station) where
         hands = λ v path choice r is behind. let h = back-read v (Some path) r in
             back-offered w K files p st h.given h.n h.epoch h.served h.from (offering env next v path choice.node) choice.node (next.epoch.0 + 1) v.count
             (seat-offering p env next v path choice.node (within-next row.epoch.0 (p.nodes choice.node)
-                (subst (IsFresh p.nodes) found fresh choice.node))) h.more;
+            (subst (IsFresh p.nodes) found fresh choice.node))) h.more;
         waits = λ v path r is behind. let h = back-read v (Some path) r in
             let more : FrontRest = record (back_rest parts) { target = Some path } in
             by-rest env.serve.c v.block v.count (λ (o : Ending). To (front_rests now next more stage.Waiting o))

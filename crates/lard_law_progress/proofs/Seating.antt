@@ -55,7 +55,7 @@ undecided : (told : Bool) (n e count : ℕ) (q : NodePart) (o : Option BackRow) 
 undecided told n e count q None h u = untaken n e count q u
 undecided told n e count q (Some r) h u =
     cond-false (r.epoch.0 == (e + 1)) (seat_there told n (e + 1) count q r.stage) (seat_untaken n (e + 1) count q) (other r.epoch.0 e h)
-        ∙ untaken n e count q u
+    ∙ untaken n e count q u
 
 pub seat-offering : (p : Part) (env : FrontEnv) (row : FrontRow) (w : Service) (path : List ℕ) (n : ℕ) → IsDecidedWithin row.epoch.0 (p.nodes n)
     → seat_of (with_front p (offering env row w path n)) ≡ Offered n (row.epoch.0 + 1) w.count

@@ -127,7 +127,7 @@ module _ (files : FilesAt) (p : Part) (st : Station) (c : ℕ) where
     decided-near count q (Some row) = cond_both (row.epoch.0 == e) (seat_there false n e count q row.stage) (seat_untaken n e count q)
         (λ (z : SeatNow). NearOffer 3 n e (post_of files st.client z))
         (λ same. there-near count q row.stage) (λ other. untaken-cases n e count q (λ (z : SeatNow). NearOffer 3 n e (post_of files st.client z))
-            (refl, refl, omega arith) (refl, refl, omega arith))
+        (refl, refl, omega arith) (refl, refl, omega arith))
 
     pub offer-near : (row : FrontRow) → p.front.row ≡ Some row → row.stage ≡ stage.Offering n (record { 0 = e }) → (parts : EndpointParts) → IsMessage (of_conn c e (body.Offer parts))
         → Near files t c 3 (record { from = Front; to = Node n; bytes = message c e (body.Offer parts) })

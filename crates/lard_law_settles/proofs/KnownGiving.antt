@@ -130,8 +130,17 @@ module _ (files : FilesAt) (x : Conn) (st : Station) (k : Talk) (pend : List Ver
         let free = beside.idle n e new in
         let knows = frozen-knows files x.c st k o.client o.says w is offering.block [] offering.count offering.holds.holds offering.frozen in
         let una : parts.una ≡ offering.block.send.una = ap (λ (p : EndpointParts). p.una) read in
-        record { row = at.row; front = at.front; with_ = at.with_; unrefused = ap (is_this_epoch e) (placed.unrefused n); unreturned = beside.ungiven n;
-            kept = free.0; fetches = free.1; served = serves; una = omega (arith, knows, una) }
+        record {
+          row = at.row;
+          front = at.front;
+          with_ = at.with_;
+          unrefused = ap (is_this_epoch e) (placed.unrefused n);
+          unreturned = beside.ungiven n;
+          kept = free.0;
+          fetches = free.1;
+          served = serves;
+          una = omega (arith, knows, una);
+        }
 
   -- ---- all of it
 
@@ -147,6 +156,6 @@ module _ (files : FilesAt) (x : Conn) (st : Station) (k : Talk) (pend : List Ver
     offers = new-offer;
     ends = λ n e why snd rcv count bytes spells was row at t.
         sits-gone (owning (tale_at x)) x.part n e beside.ungiven
-            (came-says x (Node n) Front e (body.Ended why snd rcv count) bytes placed.letters was spells) row at placed.sits t;
+        (came-says x (Node n) Front e (body.Ended why snd rcv count) bytes placed.letters was spells) row at placed.sits t;
     returns = λ n e given bytes spells was row parts is. absurd (never-back x placed n e given bytes was spells);
   }

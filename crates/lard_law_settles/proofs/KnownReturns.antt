@@ -91,8 +91,11 @@ module _ (k : Setting) where
   }
 
   ungiven-law : IsLaw k Anything IsUngiven
-  ungiven-law = record { begins = λ c n. refl; moves = weaker k StaysUngiven (λ x v. MayRestOn Anything x → IsUngiven x → IsUngiven (grown x v))
-      (λ x v h m. h) stay-ungiven }
+  ungiven-law = record {
+    begins = λ c n. refl;
+    moves = weaker k StaysUngiven (λ x v. MayRestOn Anything x → IsUngiven x → IsUngiven (grown x v))
+        (λ x v h m. h) stay-ungiven;
+  }
 
 pub each-ungiven : (config : Config) (files : List (List ℕ × List ℕ)) → OfEach config files IsUngiven
 each-ungiven config files = carried config files Anything IsUngiven (λ l. ungiven-law (with_leaving (setting config files) l)) (λ m r q. tt)

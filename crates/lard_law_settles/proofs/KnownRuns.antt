@@ -83,6 +83,6 @@ module _ (config : Config) (files : List (List ℕ × List ℕ)) (small : config
       let kept = connections-are-kept config files m reached q in
       let same : written_on ≡ whole_of (file_at files) truth.talk.w.bytes = ap (whole_of (file_at files)) o.tale.wrote in
       modest written_on AnyNode (file_at files) x st m.config.nodes (each-ungiven config files m reached q)
-          (each-end-is-of-its-stay config files m reached q) (each-epoch-is-of-one-node config files m reached q) kept
+      (each-end-is-of-its-stay config files m reached q) (each-epoch-is-of-one-node config files m reached q) kept
       (placing-asks (file_at files) x st truth.talk truth.pend o ((each-guarded config files small m reached q).0 free) kept.front written_on same)
       (each-known free st at).seat

@@ -102,7 +102,7 @@ over-gone : (w : Owning) (told : Bool) (n e count : ℕ) (q : NodePart) (o : Opt
 over-gone w told n e count q None none there over = absurd there
 over-gone w told n e count q (Some r) none there over =
     cond-true (r.epoch.0 == e) (seat_there told n e count q r.stage) (seat_untaken n e count q) (eq-eqb r.epoch.0 e there.0)
-        ∙ left-gone told n e count q r.stage none (over.1 there.0)
+    ∙ left-gone told n e count q r.stage none (over.1 there.0)
 
 module _ (w : Owning) (p : Part) (n e : ℕ) (none : (m : ℕ) → (p.nodes m).beside.returned ≡ None) (over : IsOver e (p.nodes n).row) where
   over-node : (m d : ℕ) → e ≡ d → OthersArePast m d p.nodes → n ≡ m

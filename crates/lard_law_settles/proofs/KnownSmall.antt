@@ -217,7 +217,7 @@ module _ (k : Setting) where
   fronts : FrontRules k Wanted
   fronts = each-front k Wanted (λ x env heads g is comes m free h. front-deed x heads (front_rule env x.part.front g)
       (front-keeps env x.part.front (IsFewBack x.part.front) (Came x.part.front (few-of x m free)) DeedSmall (by-rule x.part.front (few-of x m free) env h) g
-          (admission x env heads g comes)
+      (admission x env heads g comes)
       (few-back x env heads g comes m free)) h)
 
   nodes : NodeRules k Wanted

@@ -100,7 +100,7 @@ module _ (k : Setting) (x : Conn) (told : Told x) (known : IsKnown x) (heads : L
         → Each IsCalm given.1.notes → AllTo (Client env.serve.c) given.1.segments → Goes (does_first [] said (rests_in q row rest stays given calls))
     ends-answers row rest stays here given calls calm to =
         turn-answers (front_rests q row rest stays given.0) (stands_first [] said (turn_here given.1)) calm
-            (subst (λ (c : ℕ). AllTo (Client c) given.1.segments) is.number to)
+        (subst (λ (c : ℕ). AllTo (Client c) given.1.segments) is.number to)
         (both-tagless said [] quiet refl) (go (fold row_done t.done given.1.notes) (front_rests q row rest stays given.0).rest given.0) where
           go : (d : Answered) (o : Option FrontRest) (e : Ending) → StageTold d o (stage_after stays e)
           go d o (ending.Here b count) = here d o b
@@ -187,7 +187,7 @@ module _ (k : Setting) (x : Conn) (told : Told x) (known : IsKnown x) (heads : L
           (ready-to env.serve (after_timer b) (timed b));
       stays = λ row b at.
           ends-spoken p [] refl row (front_rest p.rest) stage.Waiting (λ d o c. tt) (fired_service p b) (fired_before env b)
-              (leaves_by env.serve.c (front_fired env (front_rest p.rest) b).0) tt (ready-to env.serve (after_timer b) (timed b));
+          (leaves_by env.serve.c (front_fired env (front_rest p.rest) b).0) tt (ready-to env.serve (after_timer b) (timed b));
       resends = λ row n e at. says-answers (front_saying (map sent_of p.kept)) refl tt (resent-none p.kept known.kept);
     };
     takes = λ n epoch m row i d at same. turn-answers _ (front_saying []) tt tt refl (of-stage (RowTold t.done p.rest) p row (stage.Offering i d) at told);

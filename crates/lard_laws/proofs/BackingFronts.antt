@@ -86,7 +86,7 @@ module _ (k : Setting) (small : k.stream ≤ 2 ^ 30) (x : Conn) (truth : IsTruth
       → Backs files (record looked.way.behind { served = w.count }) more → Backs files m (w.notes ++ more)
   looked-backs w target more looked h =
       backs-append files m w.notes more (steady-backs files m w.notes looked.steady)
-          (subst (λ (q : WayMarks). Backs files q more) (sym looked.way.looks.told) h)
+      (subst (λ (q : WayMarks). Backs files q more) (sym looked.way.looks.told) h)
 
   held-backs : (w : Service) → Looked w None → Backs files m (serving_settled env.serve w).1.notes
   held-backs w looked = subst (Backs files m) (sym (settled-is env.serve w).notes) (steady-backs files m w.notes looked.steady)
@@ -97,7 +97,7 @@ module _ (k : Setting) (small : k.stream ≤ 2 ^ 30) (x : Conn) (truth : IsTruth
       let f = looked.way.frozen path refl in
       let for : IsFor files looked.way.behind.wrote (w.count + 1) path =
       subst (λ (q : List ℕ). IsFor files q (w.count + 1) path) (sym f.wrote)
-          (next-for files f.w f.out f.vs w.block w.count f.holds.holds f.frozen path f.next) in
+      (next-for files f.w f.out f.vs w.block w.count f.holds.holds f.frozen path f.next) in
       looked-backs w (Some path) (rec.Admitted env.serve.c ∷ rec.AssignedFirst env.serve.c (w.count + 1) path choice.node choice.add choice.remove ∷ []) looked
       (tt, ((looked.way.looks.answered.0, refl, for), tt))
 

@@ -64,7 +64,7 @@ away-within x placed row n from at = ⊎_elim
     (λ offering.
     let sits = (of-stage (Sits (owning (tale_at x)) x.part.nodes) x.part.front row (stage.Offering n from) offering placed.sits).0 in
     each sits.2 (⊎_elim (λ coming. past-one row.epoch.0 (x.part.nodes n).row coming.2)
-        (λ there. there-one n row.epoch.0 (owning (tale_at x)) (x.part.nodes n).row there) sits.3))
+    (λ there. there-one n row.epoch.0 (owning (tale_at x)) (x.part.nodes n).row there) sits.3))
     (λ moved.
     let sits = (of-stage (Sits (owning (tale_at x)) x.part.nodes) x.part.front row (stage.Moved n from) moved placed.sits).0 in
     each sits.2 (there-one n row.epoch.0 (owning (tale_at x)) (x.part.nodes n).row sits.3))

@@ -126,7 +126,7 @@ module _ (J K : List Rec) (more : (n : ℕ) → IsClosed J n → IsClosed K n) (
   back-closed : (m e : ℕ) → whereabouts_of x ≡ AtNode m e → IsPast e (nodes m).row → (n : ℕ) → HasDecided (nodes n).row → IsClosed J n
   back-closed m e is past n decided = ⊎_elim
       (λ at. absurd (none (nodes n).row (subst (λ (i : ℕ). IsPast e (nodes i).row) (mine at) past)
-          (subst (λ (i : ℕ). IsNewTo e (nodes i).row) (mine at) (subst (NewAt nodes) is h.new)) decided))
+      (subst (λ (i : ℕ). IsNewTo e (nodes i).row) (mine at) (subst (NewAt nodes) is h.new)) decided))
       (λ closed. closed) (h.closes n decided) where
         mine : IsAtOrOver n (whereabouts_of x) → m ≡ n
         mine at = subst (IsAtOrOver n) is at

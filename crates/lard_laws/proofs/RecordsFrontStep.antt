@@ -182,8 +182,12 @@ module _ (k : FrontSetting) (small : k.stream ≤ 2 ^ 30) (named : AreNamed k.fi
         first : (path : List ℕ) → FirstFits (h.first path)
 
       no-head : IsDispatcherSound held_again.dispatch → HeadFits (no_head k held_again)
-      no-head books = record { keeps = back-keeps; turn = sends Front [] tt (omega arith); timers = λ rs h. h;
-          first = λ path. choices.first-fits held_again.dispatch books path k.now }
+      no-head books = record {
+        keeps = back-keeps;
+        turn = sends Front [] tt (omega arith);
+        timers = λ rs h. h;
+        first = λ path. choices.first-fits held_again.dispatch books path k.now;
+      }
 
       handed-fits : IsDispatcherSound held_again.dispatch → (d : ℕ) (choice : FirstChoice) → IsChosen 64 choice → (o : Option (FrontPart × FrontTurn))
           → front_admitted (front_env k held_again d 0) (front_part held_again d) choice ≡ o → HeadFits (handed_head k held_again c d o)

@@ -157,7 +157,7 @@ module _ (k : Setting) (small : k.stream ≤ 2 ^ 30) (x : Conn) (truth : IsTruth
           → Goal (rests_in q row rest stays given calls)
       rests-makes stays calls none seat =
           turned-makes env x heads (record { part = front_rests q row rest stays given.0; turn = turn_here given.1; calls = calls }) counted
-              (subst (Rightly files m) (sym notes) looks.noted_so) (ap (marked m) notes ∙ looks.told) paths
+          (subst (Rightly files m) (sym notes) looks.noted_so) (ap (marked m) notes ∙ looks.told) paths
           seat (none-counts row stays none given.0) to (λ r. tt)
 
       holds-makes : Goal (holds q row rest given)
@@ -220,7 +220,7 @@ module _ (k : Setting) (small : k.stream ≤ 2 ^ 30) (x : Conn) (truth : IsTruth
               let over : y.service.over ≡ None = subst (λ (t : Option (List ℕ)). GoesOver t y.service) e so.1 in
               let may : may_freeze y.service.block ≡ true = subst (MayMove y.service.block) e stop.1 in
               frozen-is behind wrote y.service path so.0.out_now so.0.vs_now
-                  (record { none = refl; serves = stop.0; holds = frozen-holds env l.w l.out l.vs l.was_reset y.service so.0 over stop.0 may }) may
+              (record { none = refl; serves = stop.0; holds = frozen-holds env l.w l.out l.vs l.was_reset y.service so.0 over stop.0 may }) may
               (subst (WaitsForNext files y.service.block.recv.unread) e looks.1) looks.0;
         }
 
@@ -274,14 +274,14 @@ module _ (k : Setting) (small : k.stream ≤ 2 ^ 30) (x : Conn) (truth : IsTruth
             let looked : Looked w (Some path) = came help.number help.placed g in
             handed-makes env x looked.behind row w path choice (looked.frozen path refl) heads (number help.number)
             (here-latest row (stage.Held b) at (λ i e h. h) (early-at x help.placed row at.0 (stage.Held b) at.1)
-                (sits-at row (stage.Held b) at help.placed).1.1) help g;
+            (sits-at row (stage.Held b) at help.placed).1.1) help g;
         waits = λ row b w path at came is help g. read-waits p row (front_rest p.rest) w path (came help.number help.placed g) help g;
         stays = λ row b at help g.
             let fh : FrontWaits l.w l.out l.vs pend b count = truth-at row (stage.Waiting b) at in
             let seat = seat-at row (stage.Waiting b) at g in
             let v : Service = heard_service p b sd in
             waits-makes p row (front_rest p.rest) (spoken env.serve v []) m v (start-looks (on_segment b sd).1 count fh.0.holds.counted seat.0) g.paths refl
-                (spoken-to env.serve v [] tt)
+            (spoken-to env.serve v [] tt)
             (leaves_by env.serve.c (spoken env.serve v []).0) (spoken-waits v [] (front_rest p.rest).target
             (segment-keeps (λ r y. WaitsForNext files r.unread (front_rest p.rest).target) (waits-kept files (front_rest p.rest).target) b sd seat.1)) help g;
         forwards = λ row n e at. forwards-makes n e bytes;
@@ -322,7 +322,7 @@ module _ (k : Setting) (small : k.stream ≤ 2 ^ 30) (x : Conn) (truth : IsTruth
         unfolding behind
         before-paths = front-of (map (λ a. a.0) once.before) (once.path ∷ []) (paths_wanted files m)
             (subst (λ (ps : List (List ℕ)). IsPrefix ps (paths_wanted files m))
-                (ap (map (λ a. a.0)) once.assigned ∙ map-append (λ a. a.0) once.before ((once.path, n) ∷ [])) g.paths)
+            (ap (map (λ a. a.0)) once.assigned ∙ map-append (λ a. a.0) once.before ((once.path, n) ∷ [])) g.paths)
 
         back-looks : (b : ControlBlock) (i : ℕ) → i ≡ length l.vs → Looks env.serve m behind (serving b i (back_notes env.serve.c row))
         unfolding behind
@@ -392,16 +392,16 @@ module _ (k : Setting) (small : k.stream ≤ 2 ^ 30) (x : Conn) (truth : IsTruth
           let free : IsAllAnswered files m = seat-at row (stage.Held b) at g in
           let v : Service = fired_service p b in
           holds-makes p row (front_rest p.rest) (front_fired env (front_rest p.rest) b) m v
-              (start-looks (after_timer b) count fh.holds.counted free) g.paths refl
+          (start-looks (after_timer b) count fh.holds.counted free) g.paths refl
           (spoken-to env.serve v (fired_before env b) (ready-to env.serve (after_timer b) (timed b))) help g;
       stays = λ row b at help g.
           let fh : FrontWaits l.w l.out l.vs pend b count = truth-at row (stage.Waiting b) at in
           let seat = seat-at row (stage.Waiting b) at g in
           let v : Service = fired_service p b in
           waits-makes p row (front_rest p.rest) (front_fired env (front_rest p.rest) b) m v
-              (start-looks (after_timer b) count fh.0.holds.counted seat.0) g.paths refl
+          (start-looks (after_timer b) count fh.0.holds.counted seat.0) g.paths refl
           (spoken-to env.serve v (fired_before env b) (ready-to env.serve (after_timer b) (timed b)))
-              (leaves_by env.serve.c (front_fired env (front_rest p.rest) b).0)
+          (leaves_by env.serve.c (front_fired env (front_rest p.rest) b).0)
           (spoken-waits v (fired_before env b) (front_rest p.rest).target (timer-keeps (λ r y. WaitsForNext files r.unread (front_rest p.rest).target) (waits-kept files (front_rest p.rest).target) b seat.1)) help g;
       resends = λ row n e at help g. stands-makes files x Front heads (by_front (front_saying (map sent_of p.kept))) tt (λ old. sent-say files m x.part x Front p.kept help.sound.front old) tt help g;
     }
@@ -415,16 +415,19 @@ module _ (k : Setting) (small : k.stream ≤ 2 ^ 30) (x : Conn) (truth : IsTruth
         let alone : FrontHolds l.w l.out l.vs [] b count = record { none = refl; serves = fh.0.serves; holds = fh.0.holds } in
         let next : BeginsWithRequest files b.recv.unread path = subst (WaitsForNext files b.recv.unread) is_target seat.1 in
         handed-makes env x m row (serving b count []) path choice (frozen-is m o.tale.wrote (serving b count []) path l.out l.vs alone fh.1 next
-            (start-looks b count fh.0.holds.counted seat.0)) heads (number help.number)
+        (start-looks b count fh.0.holds.counted seat.0)) heads (number help.number)
         (here-latest row (stage.Waiting b) at (λ i e h. h) (early-at x help.placed row at.0 (stage.Waiting b) at.1)
-            (sits-at row (stage.Waiting b) at help.placed).1.1) help g
+        (sits-at row (stage.Waiting b) at help.placed).1.1) help g
 
   -- ---- it comes back
 
   gives-makes : (n epoch : ℕ) (parts : EndpointParts) → Goal (Says (front_saying (given_sent env.serve.c n epoch (Some parts))))
   gives-makes n epoch parts = stands-makes files x Front heads (by_front (front_saying (given_sent env.serve.c n epoch (Some parts)))) tt
-      (λ old. (front-quiet files m x.part n env.serve.c epoch body.Given (λ f. let z : kind.Given ≡ kind.Offer = f in cc)
-          (λ f. let z : kind.Given ≡ kind.Tag = f in cc), tt)) tt
+      (λ old. (
+        front-quiet files m x.part n env.serve.c epoch body.Given (λ f. let z : kind.Given ≡ kind.Offer = f in cc)
+            (λ f. let z : kind.Given ≡ kind.Tag = f in cc),
+        tt,
+      )) tt
 
   pub returned-looks : (n epoch : ℕ) (given : Option EndpointParts) → HasBack x n epoch given heads → (row : FrontRow) (parts : EndpointParts)
       → IsBack p n epoch given row parts

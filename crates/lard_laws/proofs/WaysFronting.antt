@@ -47,7 +47,7 @@ module _ (env : FrontEnv) (x : Conn) where
   pub turned-makes : (heads : List Seen) (did : Did) (n : WayMarks) → Rightly files begun did.turn.notes → marked begun did.turn.notes ≡ n
       → IsPrefix (paths_assigned n) (paths_wanted files n) → SeatWays files n (with_front x.part did.part) did.part.row
       → ((i e : ℕ) → is_row_at i e did.part.row ≡ true → ⊥) → AllTo (Client env.serve.c) did.turn.segments
-          → ((q : Part) → Each (LetterWays files n q) (map (letter Front) did.turn.messages)) → Keeps files x (front_does x heads (Does did))
+      → ((q : Part) → Each (LetterWays files n q) (map (letter Front) did.turn.messages)) → Keeps files x (front_does x heads (Does did))
   turned-makes heads did n notes told paths seat none to messages help g =
       let v : Move = front_does x heads (Does did) in
       makes files x v help g n notes told paths seat
@@ -125,7 +125,7 @@ module _ (env : FrontEnv) (x : Conn) where
         makes files x v help g n
         (rightly-append files begun s.notes more h.looks.noted_so (tt, (next, tt)))
         (marked-append begun s.notes more
-            ∙ ap (λ (q : WayMarks). record q { assigned = q.assigned ++ (path, choice.node) ∷ []; fresh = true; home = Some choice.node }) h.looks.told)
+        ∙ ap (λ (q : WayMarks). record q { assigned = q.assigned ++ (path, choice.node) ∷ []; fresh = true; home = Some choice.node }) h.looks.told)
         (w.0, paths) (
           refl,
           inl (
@@ -165,7 +165,7 @@ module _ (env : FrontEnv) (x : Conn) where
                 → FrontSaysWays files placed_marks q choice.node msg.epoch.0 b
             by-body q msg d (body.Offer parts) at same = λ counts.
                 let read : parts ≡ parts_of s.block s.count = offers-read env.serve.c
-                    (next_epoch row).0 h.w h.out h.vs [] s.block s.count number latest.small h.stream h.holds h.frozen msg parts d at in
+                (next_epoch row).0 h.w h.out h.vs [] s.block s.count number latest.small h.stream h.holds h.frozen msg parts d at in
                 inr (m.assigned, path, choice.node, refl, subst (λ (z : EndpointParts). BeginsWithRequest files z.unread path) (sym read) h.next)
             by-body q msg d (body.Tag number nodes) at same = let no : kind.Offer ≡ kind.Tag = same ∙ ap kind_of at in absurd (let f : ⊥ = cc in f)
             by-body q msg d _ at same = tt

@@ -115,8 +115,10 @@ module _ (k : Setting) (small : k.stream ≤ 2 ^ 30) where
         let same : sent ≡ parts.una = offered-sent x.part.front.kept x.part.front.row row n back.from parts at.0 at.1 back.parts_are in (
           goes.end,
           omega (arith, same),
-          ((epoch, refused-past x n epoch row (refused-there x placed n epoch heads comes row parts back)),
-              subst (SymbolsWereSent x.c s.client s.iss x.letters) (sym same) goes.sent),
+          (
+            (epoch, refused-past x n epoch row (refused-there x placed n epoch heads comes row parts back)),
+            subst (SymbolsWereSent x.c s.client s.iss x.letters) (sym same) goes.sent,
+          ),
         )
 
     -- ---- whatever comes

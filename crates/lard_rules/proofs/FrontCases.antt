@@ -236,17 +236,17 @@ module _ (env : FrontEnv) (p : FrontPart) (said : List (Place × List ℕ)) (row
   pub return-keeps : KeptByReturn env p said row parts R D → D (does_first (back_notes env.serve.c row) said (reads_on env p row parts))
   return-keeps kept = subst D (sym (read-noted (back_notes env.serve.c row) env (back_part p row parts) (returned_row parts row) (back_rest parts) said (record { service = serving (adopted parts) parts.served []; target = None })))
       (settled x.service x.target kept.reads) where
-    x : Reading
-    x = front_reads env.serve (back_reading env row parts)
+        x : Reading
+        x = front_reads env.serve (back_reading env row parts)
 
-    goes : (w : Service) (path : List ℕ) → R w (Some path) → (f : First) → env.first path ≡ f
-        → D (does_first [] said (Does (placed env (back_part p row parts) (returned_row parts row) (back_rest parts) w path f)))
-    goes w path r (first.Go choice) is = kept.hands w path choice r is
-    goes w path r first.Waits is = kept.waits w path r is
+        goes : (w : Service) (path : List ℕ) → R w (Some path) → (f : First) → env.first path ≡ f
+            → D (does_first [] said (Does (placed env (back_part p row parts) (returned_row parts row) (back_rest parts) w path f)))
+        goes w path r (first.Go choice) is = kept.hands w path choice r is
+        goes w path r first.Waits is = kept.waits w path r is
 
-    settled : (w : Service) (o : Option (List ℕ)) → R w o → D (does_first [] said (settled_by env (back_part p row parts) (returned_row parts row) (back_rest parts) w o))
-    settled w None r = kept.holds w r
-    settled w (Some path) r = goes w path r (env.first path) refl
+        settled : (w : Service) (o : Option (List ℕ)) → R w o → D (does_first [] said (settled_by env (back_part p row parts) (returned_row parts row) (back_rest parts) w o))
+        settled w None r = kept.holds w r
+        settled w (Some path) r = goes w path r (env.first path) refl
 
 -- It comes back, or the Give of one that the front end is past is answered again.
 module _ (env : FrontEnv) (p : FrontPart) (D : FrontDeed → Type 0) (drops : D Drops) (n epoch : ℕ) where

@@ -111,7 +111,7 @@ module _ (d : Dispatcher) (c : ℕ) (now : Millis) (in_ : IsAdmitted (dispatch_s
         let many : admitted (next_admitted d.config now (released_from d.books c) (w ∷ ws)).loads ≡ admitted (released_from d.books c).loads + 1 =
         len-insert nat_cmp_total (released_from d.books c).loads.standings w.c (record { home = chosen.node; shares = [] })
         ∙ ap (λ (o : Option Standing). cond (is_some o) (table.len (released_from d.books c).loads.standings) (table.len (released_from d.books c).loads.standings + 1))
-          (free-first d.books.loads.standings c w ws there apart) in
+        (free-first d.books.loads.standings c w ws there apart) in
         ap (λ (l : List Waiting). admitted (next_admitted d.config now (released_from d.books c) l).loads) line ∙ many ∙ room
 
     pub no-room : IsDispatcherSound d → is_full (after_ended d c now) ≡ true
@@ -245,8 +245,8 @@ module _ (k : FrontSetting) (s : FrontState) (sound : IsFrontSound s) (c : ℕ) 
       sound = record {
         each = subst (λ nodes. (q : ℕ) → Stands nodes q (front_part (front_put after w.c handed.0) q)) (sym (ended-nodes d c k.now))
             (both-all (Stands (open_nodes_of d)) (subst (IsPartSound (open_nodes_of d) part) (sym (head-ended d c k.now in_ w ws line)) own)
-              (record { stands = head-here d c k.now in_ w ws line sound.books; early = goes-early (open_nodes_of d) there.node waits.row.epoch.0 head-open waits.here.early; offer = refl })
-              (λ q n m. subst (IsPartSound (open_nodes_of d) (front_part s q)) (sym (head-others d c k.now in_ w ws line q n m)) (sound.each q)));
+            (record { stands = head-here d c k.now in_ w ws line sound.books; early = goes-early (open_nodes_of d) there.node waits.row.epoch.0 head-open waits.here.early; offer = refl })
+            (λ q n m. subst (IsPartSound (open_nodes_of d) (front_part s q)) (sym (head-others d c k.now in_ w ws line q n m)) (sound.each q)));
         tags = both-all (λ q p. HasTag p.rest) tag (λ some. absurd (omega (arith, some))) (λ q n m. sound.tags q);
         some = put-some after w.c handed.0 (put-some s c part sound.some);
         books = calls-kept d released_as.calls sound.books (may-end d c k.now in_, tt);

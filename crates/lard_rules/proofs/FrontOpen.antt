@@ -155,9 +155,9 @@ module _ (P : ℕ → Type 0) where
   joined-serve sets target None now all h = all
   joined-serve sets target (Some m) now all h =
       put-serve sets target _ all (λ n some there. go n (nat_eq n m) refl (sym (has-with_member (set_of sets target).members m n h.1 some) ∙ there) (all target n some)) where
-    go : (n : ℕ) (b : Bool) → nat_eq n m ≡ b → (b || has (set_of sets target).members n) ≡ true → (has (set_of sets target).members n ≡ true → P n) → P n
-    go n true e t old = subst P (sym (eqb-true n m e)) h.0
-    go n false e t old = old t
+        go : (n : ℕ) (b : Bool) → nat_eq n m ≡ b → (b || has (set_of sets target).members n) ≡ true → (has (set_of sets target).members n ≡ true → P n) → P n
+        go n true e t old = subst P (sym (eqb-true n m e)) h.0
+        go n false e t old = old t
 
   -- who leaves leaves the others
   without-serve : (s : ServerSet) (m : ℕ) (modified : Millis) → 1 ≤ m → Members s

@@ -150,14 +150,18 @@ fn check_message(
         return Ok(());
     }
     match decode(alloc, bytes) {
-        Ok(Message {
-            body: Body::Refused,
-            ..
-        }) => return Err(NoMemory),
-        Ok(Message {
-            body: Body::Give(_),
-            ..
-        }) => return Err(NoMemory),
+        Ok(
+            Message {
+                body: Body::Refused,
+                ..
+            },
+        ) => return Err(NoMemory),
+        Ok(
+            Message {
+                body: Body::Give(_),
+                ..
+            },
+        ) => return Err(NoMemory),
         Ok(_) => return Ok(()),
         Err(MsgFault::NoMemory) => return Err(NoMemory),
         Err(_) => return Ok(()),
