@@ -23,7 +23,7 @@ SHAPES = {
     "c": (NUMBER, 1, 16384), "n": (NUMBER, 1, 64), "epoch": (NUMBER, 0, 2**16 - 1), "code": (NUMBER, 0, 2**16 - 1),
     "wide": (NUMBER, 0, 2**32 - 1), "rounds": (NUMBER, 1, 2**32 - 1), "window": (NUMBER, 1, 65535), "mss": (NUMBER, 1, 1460),
     "hex": ("([0-9a-f]{2})+",), "short": ("([0-9a-f]{2}){1,1520}",), "path": ("/[!-~]{0,1023}",),
-    "choice": ("-|" + NUMBER,), "timer": ("tcp|offer|ask|fetch|ended",), "which": ("first|later",),
+    "choice": ("-|" + NUMBER,), "timer": ("tcp|offer|ask|fetch|ended|give",), "which": ("first|later",),
     "place": (f"front|[nc]({NUMBER})",), "node": (f"n({NUMBER})",), "via": (f"own|cache|disk|node({NUMBER})",),
 }
 

@@ -71,7 +71,7 @@ SHAPES = {
     "path": r"/[!-~]*",
     "place": PLACE, "source": PLACE, "target": PLACE, "reader": PLACE,
     "via": rf"(?:own|cache|disk|node{NODE})",
-    "timer": r"(?:tcp|offer|ask|fetch|ended)",
+    "timer": r"(?:tcp|offer|ask|fetch|ended|give)",
     "add": rf"(?:-|{NODE})", "remove": rf"(?:-|{NODE})",
 }  # every other field is a number
 

@@ -5,7 +5,7 @@ use Rattle.std.specs.FinMap.{entries, get, values}
 use Rattle.std.specs.List.{AllByRecursion}
 use Rattle.lard_base.specs.declared.place.Place.{Place}
 use Rattle.lard_base.specs.declared.place.TimerKind.{TimerKind}
-use Rattle.lard_base.specs.declared.place.TimerKind.TheVariants.{Tcp, Offer, Ask, Fetch, Ended}
+use Rattle.lard_base.specs.declared.place.TimerKind.TheVariants.{Tcp, Offer, Ask, Fetch, Ended, Give}
 use Rattle.lard_dispatch.specs.Books.{Dispatcher}
 use Rattle.lard_history.specs.Journal.{is_running}
 use Rattle.lard_journal.specs.declared.rec.Rec.{Rec}
@@ -42,10 +42,11 @@ or-one false b P one other h = other h
 -- of what is kept a kind runs
 some-runs : (kinds : Kinds) → is_none kinds ≡ false → (kind : TimerKind) × (runs kind kinds ≡ true)
 some-runs kinds =
-    or-one kinds.tcp (kinds.offer || (kinds.ask || (kinds.fetch || kinds.ended))) Found (λ e. (Tcp, e))
-    (or-one kinds.offer (kinds.ask || (kinds.fetch || kinds.ended)) Found (λ e. (Offer, e))
-    (or-one kinds.ask (kinds.fetch || kinds.ended) Found (λ e. (Ask, e))
-    (or-one kinds.fetch kinds.ended Found (λ e. (Fetch, e)) (λ e. (Ended, on kinds.ended e))))) where
+    or-one kinds.tcp (kinds.offer || (kinds.ask || (kinds.fetch || (kinds.ended || kinds.give)))) Found (λ e. (Tcp, e))
+    (or-one kinds.offer (kinds.ask || (kinds.fetch || (kinds.ended || kinds.give))) Found (λ e. (Offer, e))
+    (or-one kinds.ask (kinds.fetch || (kinds.ended || kinds.give)) Found (λ e. (Ask, e))
+    (or-one kinds.fetch (kinds.ended || kinds.give) Found (λ e. (Fetch, e))
+    (or-one kinds.ended kinds.give Found (λ e. (Ended, e)) (λ e. (Give, on kinds.give e)))))) where
       Found : Type 0
       Found = (kind : TimerKind) × (runs kind kinds ≡ true)
 

@@ -1,4 +1,4 @@
--- Few timers run: five at each seat at most, and seats are found by numbers that rise.
+-- Few timers run: six at each seat at most, and seats are found by numbers that rise.
 use Rattle.std.proofs.Common.{◌≡◌, ◌≤◌, ◌<◌, ℕ, ◌+◌, ◌-◌, ◌*◌, ◌^◌, Bool, true, false, cond, not, List, [], ◌∷◌, map, length, Some, refl, arith}
 use Rattle.std.proofs.lemmas.Bool.Decides.{nat_tests}
 use Rattle.std.proofs.lemmas.List.{length-map}
@@ -21,16 +21,17 @@ one-few : (on : Bool) → one_if on ≤ 1
 one-few true = omega arith
 one-few false = omega arith
 
-kinds-few : (k : Kinds) → how_many k ≤ 5
+kinds-few : (k : Kinds) → how_many k ≤ 6
 kinds-few k =
     let a = one-few k.tcp in
     let b = one-few k.offer in
     let c = one-few k.ask in
     let d = one-few k.fetch in
     let e = one-few k.ended in
-    omega (arith, a, b, c, d, e)
+    let f = one-few k.give in
+    omega (arith, a, b, c, d, e, f)
 
-all-few : (rs : List Running) → kinds_in rs ≤ 5 * length rs
+all-few : (rs : List Running) → kinds_in rs ≤ 6 * length rs
 all-few [] = omega arith
 all-few (r ∷ rs) = let one = kinds-few r.kinds in let more = all-few rs in omega (arith, one, more)
 

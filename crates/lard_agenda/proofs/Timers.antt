@@ -6,7 +6,7 @@ use Rattle.std.specs.Ordering.{nat_cmp}
 use Rattle.lard_base.specs.declared.place.Place.{Place}
 use Rattle.lard_base.specs.declared.place.Place.TheVariants.{Front, Node, Client}
 use Rattle.lard_base.specs.declared.place.TimerKind.{TimerKind}
-use Rattle.lard_base.specs.declared.place.TimerKind.TheVariants.{Tcp, Offer, Ask, Fetch, Ended}
+use Rattle.lard_base.specs.declared.place.TimerKind.TheVariants.{Tcp, Offer, Ask, Fetch, Ended, Give}
 use Rattle.lard_history.specs.Journal.{armed_step, is_kind, is_place}
 use Rattle.lard_history.proofs.Seeing.{by_number, other_number, same_number}
 use Rattle.lard_journal.specs.declared.rec.Rec.{Rec}
@@ -28,6 +28,7 @@ with-runs Offer Offer on kinds = refl
 with-runs Ask Ask on kinds = refl
 with-runs Fetch Fetch on kinds = refl
 with-runs Ended Ended on kinds = refl
+with-runs Give Give on kinds = refl
 with-runs _ _ on kinds = refl
 
 nor : (a b : Bool) → not (a || b) ≡ true → (a ≡ false) × (not b ≡ true)
@@ -36,21 +37,25 @@ nor false b h = (refl, h)
 
 none-runs : (kind : TimerKind) (kinds : Kinds) → is_none kinds ≡ true → runs kind kinds ≡ false
 none-runs kind kinds h =
-    let no_tcp = nor kinds.tcp (kinds.offer || (kinds.ask || (kinds.fetch || kinds.ended))) h in
-    let no_offer = nor kinds.offer (kinds.ask || (kinds.fetch || kinds.ended)) no_tcp.1 in
-    let no_ask = nor kinds.ask (kinds.fetch || kinds.ended) no_offer.1 in
-    let no_fetch = nor kinds.fetch kinds.ended no_ask.1 in
-    by kind (no_tcp.0, no_offer.0, no_ask.0, no_fetch.0, off kinds.ended no_fetch.1) where
+    let no_tcp = nor kinds.tcp (kinds.offer || (kinds.ask || (kinds.fetch || (kinds.ended || kinds.give)))) h in
+    let no_offer = nor kinds.offer (kinds.ask || (kinds.fetch || (kinds.ended || kinds.give))) no_tcp.1 in
+    let no_ask = nor kinds.ask (kinds.fetch || (kinds.ended || kinds.give)) no_offer.1 in
+    let no_fetch = nor kinds.fetch (kinds.ended || kinds.give) no_ask.1 in
+    let no_ended = nor kinds.ended kinds.give no_fetch.1 in
+    by kind (no_tcp.0, no_offer.0, no_ask.0, no_fetch.0, no_ended.0, off kinds.give no_ended.1) where
       off : (b : Bool) → not b ≡ true → b ≡ false
       off true e = sym e
       off false e = refl
 
-      by : (kind : TimerKind) → (kinds.tcp ≡ false) × (kinds.offer ≡ false) × (kinds.ask ≡ false) × (kinds.fetch ≡ false) × (kinds.ended ≡ false) → runs kind kinds ≡ false
+      by : (kind : TimerKind)
+          → (kinds.tcp ≡ false) × (kinds.offer ≡ false) × (kinds.ask ≡ false) × (kinds.fetch ≡ false) × (kinds.ended ≡ false) × (kinds.give ≡ false)
+          → runs kind kinds ≡ false
       by Tcp all = all.0
       by Offer all = all.1
       by Ask all = all.2
       by Fetch all = all.3
       by Ended all = all.4
+      by Give all = all.5
 
 -- what is kept tells the kinds
 entry-runs : (p : Place) (c : ℕ) (kind : TimerKind) (kinds : Kinds) → runs kind (kinds_of (entry p c kinds)) ≡ runs kind kinds
@@ -61,6 +66,7 @@ entry-runs p c kind kinds = go (is_none kinds) refl where
   off Ask = refl
   off Fetch = refl
   off Ended = refl
+  off Give = refl
 
   go : (b : Bool) → is_none kinds ≡ b → runs kind (kinds_of (cond b None (Some (record { place = p; c = c; kinds = kinds })))) ≡ runs kind kinds
   go true e = off kind ∙ sym (none-runs kind kinds e)
@@ -142,6 +148,7 @@ none-told Offer = refl
 none-told Ask = refl
 none-told Fetch = refl
 none-told Ended = refl
+none-told Give = refl
 
 pub timers_are_told : AgendasTellTimers
 unfolding agenda_of

@@ -1,13 +1,13 @@
 -- Which timers of a connection run at a place.
 use Rattle.std.specs.Prelude.{ℕ, ◌+◌, Bool, false, ◌||◌, not, if◌then◌else◌, Option, Some, None}
 use Rattle.lard_base.specs.declared.place.TimerKind.{TimerKind}
-use Rattle.lard_base.specs.declared.place.TimerKind.TheVariants.{Tcp, Offer, Ask, Fetch, Ended}
+use Rattle.lard_base.specs.declared.place.TimerKind.TheVariants.{Tcp, Offer, Ask, Fetch, Ended, Give}
 use Rattle.lard_agenda.specs.declared.kinds.Kinds.{Kinds}
 use Rattle.lard_agenda.specs.declared.kinds.Running.{Running}
 
 -- none runs
 abbrev pub no_kinds : Kinds
-no_kinds = record { tcp = false; offer = false; ask = false; fetch = false; ended = false }
+no_kinds = record { tcp = false; offer = false; ask = false; fetch = false; ended = false; give = false }
 
 -- the timer of this kind runs
 abbrev pub runs : TimerKind → Kinds → Bool
@@ -16,6 +16,7 @@ runs Offer kinds = kinds.offer
 runs Ask kinds = kinds.ask
 runs Fetch kinds = kinds.fetch
 runs Ended kinds = kinds.ended
+runs Give kinds = kinds.give
 
 -- the same, but that the timer of this kind runs, or does not
 abbrev pub with_timer : Kinds → TimerKind → Bool → Kinds
@@ -24,16 +25,17 @@ with_timer kinds Offer on = record kinds { offer = on }
 with_timer kinds Ask on = record kinds { ask = on }
 with_timer kinds Fetch on = record kinds { fetch = on }
 with_timer kinds Ended on = record kinds { ended = on }
+with_timer kinds Give on = record kinds { give = on }
 
 abbrev pub is_none : Kinds → Bool
-is_none kinds = not (kinds.tcp || (kinds.offer || (kinds.ask || (kinds.fetch || kinds.ended))))
+is_none kinds = not (kinds.tcp || (kinds.offer || (kinds.ask || (kinds.fetch || (kinds.ended || kinds.give)))))
 
 abbrev pub one_if : Bool → ℕ
 one_if on = if on then 1 else 0
 
 -- how many run
 abbrev pub how_many : Kinds → ℕ
-how_many kinds = one_if kinds.tcp + one_if kinds.offer + one_if kinds.ask + one_if kinds.fetch + one_if kinds.ended
+how_many kinds = one_if kinds.tcp + one_if kinds.offer + one_if kinds.ask + one_if kinds.fetch + one_if kinds.ended + one_if kinds.give
 
 -- those of a connection at a place: none where nothing is kept of it there
 abbrev pub kinds_of : Option Running → Kinds

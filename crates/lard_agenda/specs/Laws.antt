@@ -66,9 +66,9 @@ NamesLowSeat (rec.Armed p c kind) = seat p c < 2 ^ 32
 NamesLowSeat (rec.Cleared p c kind) = seat p c < 2 ^ 32
 NamesLowSeat _ = Unit {0}
 
--- At each seat five timers run at most, one of each kind, and there are no more seats than that.
+-- At each seat six timers run at most, one of each kind, and there are no more seats than that.
 abbrev pub AgendasTellFewTimers : Type 0
-AgendasTellFewTimers = (d : Dispatcher) (J : List Rec) → AllByRecursion NamesLowSeat J → timers_left d (agenda_of J) ≤ 5 * 2 ^ 32
+AgendasTellFewTimers = (d : Dispatcher) (J : List Rec) → AllByRecursion NamesLowSeat J → timers_left d (agenda_of J) ≤ 6 * 2 ^ 32
 
 -- ---- clients that hold
 

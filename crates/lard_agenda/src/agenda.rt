@@ -129,7 +129,7 @@ impl Agenda {
     /// How many timers run and are not stalled.
     pub fn timers_left(&self, line: &Dispatch) -> u64
         ensures count { result ≡ timers_left line.now self.now }
-        ensures few { result ≤ 5 * 2 ^ 32 }
+        ensures few { result ≤ 6 * 2 ^ 32 }
     {
         let mut left = 0;
         for running in self.running.values() {

@@ -5,7 +5,7 @@ ghost use Rattle.lard_agenda.specs.Kinds.{how_many, is_none, no_kinds, with_time
 
 use lard_base::{ConnId, Place, TimerKind};
 
-/// Which of the five kinds of timers run.
+/// Which of the six kinds of timers run.
 #[derive(Clone, Copy, Debug, PartialEq, Eq)]
 pub struct Kinds {
     pub tcp: bool,
@@ -13,6 +13,7 @@ pub struct Kinds {
     pub ask: bool,
     pub fetch: bool,
     pub ended: bool,
+    pub give: bool,
 }
 
 impl Kinds {
@@ -26,6 +27,7 @@ impl Kinds {
             ask: false,
             fetch: false,
             ended: false,
+            give: false,
         }
     }
 
@@ -48,6 +50,7 @@ impl Kinds {
                 ended: runs,
                 ..self
             },
+            TimerKind::Give => Kinds { give: runs, ..self },
         }
     }
 
@@ -55,19 +58,20 @@ impl Kinds {
     pub fn is_none(self) -> bool
         ensures { result ≡ is_none self }
     {
-        !(self.tcp || self.offer || self.ask || self.fetch || self.ended)
+        !(self.tcp || self.offer || self.ask || self.fetch || self.ended || self.give)
     }
 
     /// How many of them run.
     pub fn how_many(self) -> u64
         ensures value { result ≡ how_many self }
-        ensures few { result ≤ 5 }
+        ensures few { result ≤ 6 }
     {
         u64::from(self.tcp)
             + u64::from(self.offer)
             + u64::from(self.ask)
             + u64::from(self.fetch)
             + u64::from(self.ended)
+            + u64::from(self.give)
     }
 }
 

@@ -9,7 +9,7 @@ pub fn agendas_tell_packets()
 
 /// What is kept at a seat is which timers of its connection run at its place, where the records of timers name nodes up
 /// to 64 and connections below 2^16; and nothing is kept where none runs. Where these seats are below 2^32, no more
-/// than five times as many timers run.
+/// than six times as many timers run.
 pub fn agendas_tell_timers()
     ensures timers { AgendasTellTimers }
     ensures idle { AgendasKeepNothingIdle }

@@ -7,10 +7,10 @@ use Rattle.std.specs.Ordering.{nat_cmp}
 use Rattle.lard_back.specs.declared.hand.At.{At}
 use Rattle.lard_back.specs.declared.timers.Flags.{Flags}
 use Rattle.lard_back.specs.Hand.{HeldMessages, node_lent}
-use Rattle.lard_back.specs.Place.{IsActed, IsGone, acted, ends_with, node_env_of}
+use Rattle.lard_back.specs.Place.{HasTurned, IsActed, IsBack, IsGone, acted, deed_at, ends_with, node_env_of}
 use Rattle.lard_back.specs.Sound.{EndsSound, IsAtRest, IsNodeSound, IsStaying, NoneEmpty}
 use Rattle.lard_back.proofs.Keeping.{Gains, segment-gains}
-use Rattle.lard_back.proofs.Putting.{closes-is}
+use Rattle.lard_back.proofs.Putting.{closes-is, gives-is}
 use Rattle.lard_base.specs.declared.errors.NoMemory.{NoMemory}
 use Rattle.lard_base.specs.declared.place.Place.{Place}
 use Rattle.lard_endpoint.specs.Arriving.{on_segment}
@@ -24,7 +24,7 @@ use Rattle.lard_handoff_back.specs.Table.{Table, table_begun}
 use Rattle.lard_rules.specs.declared.node.NodeState.{NodeState}
 use Rattle.lard_rules.specs.declared.node.NodeTurn.{NodeTurn}
 use Rattle.lard_rules.specs.declared.stay.Stay.{Stay}
-use Rattle.lard_rules.specs.Node.{NodePart, both_of, here, kept_after, turn_by}
+use Rattle.lard_rules.specs.Node.{Does, NodePart, both_of, gives_back, here, kept_after, kept_back, may_give_back, turn_back, turn_by, with_work}
 use Rattle.lard_rules.specs.NodePlace.{NodeSetting, node_part, node_put, stores_told}
 use Rattle.lard_rules.specs.declared.stay.Progress.{Progress}
 use Rattle.lard_rules.specs.Stay.{NodeEnv, Work, came_for, come_on}
@@ -57,13 +57,12 @@ put-sound s c q rest sound = record {
         (subst (λ row. IsAtRest row (get (node_put s c q).stays c)) (sym (get_put_same s.conns.rows c q.row)) (subst (IsAtRest q.row) (sym (get_put_same s.stays c q.stay)) rest))
     | inr n ↦ subst (λ row. IsAtRest row (get (node_put s c q).stays p)) (sym (get_put_other s.conns.rows c p q.row n)) (subst (IsAtRest (get s.conns.rows p)) (sym (get_put_other s.stays c p q.stay n)) (sound.stays p))
   ];
-  remains = sound.remains;
   kept = empty-put s.kept c q.kept sound.kept;
   fetches = empty-put s.fetches c q.fetches sound.fetches;
 }
 
 pub told-sound : (s : NodeState) (t : NodeTurn) → IsNodeSound s → IsNodeSound (stores_told s t)
-told-sound s t sound = record { stays = sound.stays; remains = sound.remains; kept = sound.kept; fetches = sound.fetches }
+told-sound s t sound = record { stays = sound.stays; kept = sound.kept; fetches = sound.fetches }
 
 pub ends-rest : (env : NodeEnv) (p : NodePart) (w : Work) (e : Ending) → EndsSound e w → IsAtRest (kept_after env p w e).row (kept_after env p w e).stay
 ends-rest env p w (ending.Here b count) s = s
@@ -80,27 +79,33 @@ pub here-parts : (s : NodeState) (at : At) (x : ControlBlock × Stay) → here a
     → (staying at.epoch.0 (get s.conns.rows at.c) ≡ Some x.0) × (get s.stays at.c ≡ Some x.1)
 here-parts s at x h = both-parts (staying at.epoch.0 (get s.conns.rows at.c)) (get s.stays at.c) x h
 
+-- what is kept of it is at rest
+did-sound : (s : NodeState) (at : At) (was : Flags) (q : NodePart) (t : NodeTurn) (n : NodeState) (out : Out) → IsAtRest q.row q.stay → IsNodeSound s → (n, out) ≡ deed_at s at was (Does (q, t)) → IsNodeSound n
+did-sound s at was q t n out rest sound is = subst IsNodeSound (ap (λ (x : NodeState × Out). x.0) (sym is)) (told-sound (node_put s at.c q) t (put-sound s at.c q rest sound))
+
 -- all of it is put back: this is what the rules say, and the state is sound
 pub gone-ends : (k : NodeSetting) (s : NodeState) (at : At) (was : Flags) (before : List (Place × List ℕ)) (b : ControlBlock) (w : Work) (given : Ending × Turn) (n : NodeState) (out : Out)
     → staying at.epoch.0 (get s.conns.rows at.c) ≡ Some b → IsNodeSound s → IsGone (node_lent s at.c) at was before w given n out
     → ((n, out) ≡ ends_with k s at was before w given) × IsNodeSound n
 gone-ends k s at was before b w given n out staying sound gone =
+    let env : NodeEnv = node_env_of k s at in
     let is : (n, out) ≡ ends_with k s at was before w given = gone.closes ∙ closes-is k s at was before b w given staying (sound.kept at.c) (sound.fetches at.c) in
-    let q : NodePart = kept_after (node_env_of k s at) (node_part s at.c) w given.0 in
-    let kept : IsNodeSound (stores_told (node_put s at.c q) (turn_by (node_env_of k s at) before w given)) =
-    told-sound (node_put s at.c q) (turn_by (node_env_of k s at) before w given) (put-sound s at.c q (ends-rest (node_env_of k s at) (node_part s at.c) w given.0 gone.sound) sound) in
-    (is, subst IsNodeSound (ap (λ (x : NodeState × Out). x.0) (sym is)) kept)
+    (is, did-sound s at was (kept_after env (node_part s at.c) w given.0) (turn_by env before w given) n out (ends-rest env (node_part s at.c) w given.0 gone.sound) sound is)
 
-pub gone-acted : (k : NodeSetting) (s t : NodeState) (at : At) (was : Flags) (f : NodeEnv → ControlBlock × Stay → Work) (x : ControlBlock × Stay) (w : Work) (n : NodeState) (out : Out)
-    → here at.epoch.0 (node_part s at.c) ≡ Some x → t ≡ node_lent s at.c → w ≡ f (node_env_of k s at) x → IsNodeSound s
-    → IsGone t at was [] w (serving_settled (node_env_of k s at).serve w.service) n out → IsActed k s at was f n out
-gone-acted k s t at was f x w n out found lends is sound gone =
-    let v : Work = f (node_env_of k s at) x in
-    let g : IsGone (node_lent s at.c) at was [] v (serving_settled (node_env_of k s at).serve v.service) n out =
-    subst (λ (u : Work). IsGone (node_lent s at.c) at was [] u (serving_settled (node_env_of k s at).serve u.service) n out) is
-    (subst (λ (u : NodeState). IsGone u at was [] w (serving_settled (node_env_of k s at).serve w.service) n out) lends gone) in
-    let all = gone-ends k s at was [] x.0 v (serving_settled (node_env_of k s at).serve v.service) n out (here-parts s at x found).0 sound g in
-    record { does = all.0 ∙ ap (acted k s at was f) (sym found); sound = all.1 }
+-- the connection went back
+back-ends : (k : NodeSetting) (s : NodeState) (at : At) (was : Flags) (b : ControlBlock) (w : Work) (n : NodeState) (out : Out)
+    → staying at.epoch.0 (get s.conns.rows at.c) ≡ Some b → IsNodeSound s → IsBack (node_lent s at.c) at was w n out
+    → ((n, out) ≡ deed_at s at was (gives_back (node_env_of k s at) (node_part s at.c) [] w)) × IsNodeSound n
+back-ends k s at was b w n out staying sound back =
+    let env : NodeEnv = node_env_of k s at in
+    let is : (n, out) ≡ deed_at s at was (gives_back env (node_part s at.c) [] w) = back ∙ gives-is k s at was b w staying (sound.kept at.c) (sound.fetches at.c) in
+    (is, did-sound s at was (kept_back env (node_part s at.c) w) (turn_back env [] w) n out tt sound is)
+
+turned-ends : (k : NodeSetting) (s : NodeState) (at : At) (was : Flags) (b : ControlBlock) (w : Work) (n : NodeState) (out : Out) (back : Bool)
+    → staying at.epoch.0 (get s.conns.rows at.c) ≡ Some b → IsNodeSound s → HasTurned back (node_env_of k s at).serve (node_lent s at.c) at was w n out
+    → (let env = node_env_of k s at in let p = node_part s at.c in (n, out) ≡ deed_at s at was (cond back (gives_back env p [] w) (with_work env p [] w))) × IsNodeSound n
+turned-ends k s at was b w n out true staying sound turned = back-ends k s at was b w n out staying sound turned
+turned-ends k s at was b w n out false staying sound turned = gone-ends k s at was [] b w (serving_settled (node_env_of k s at).serve w.service) n out staying sound turned
 
 -- ---- a stay that is found is sound
 
@@ -123,16 +128,20 @@ stay-sound s at b v found sound =
 
 -- ---- in the code
 
+-- a turn of it is over, whose state was this one without the connection
+abbrev Turned : NodeSetting → At → Flags → (NodeEnv → ControlBlock × Stay → Work) → ControlBlock × Stay → NodeState → Out → NodeState → Type 0
+Turned k at was f x n out u = HasTurned (may_give_back (node_env_of k u at) (f (node_env_of k u at) x)) (node_env_of k u at).serve u at was (f (node_env_of k u at) x) n out
+
 pub acted-by : (k : NodeSetting) (s t : NodeState) (at : At) (was : Flags) (f : NodeEnv → ControlBlock × Stay → Work) (x : ControlBlock × Stay) (w : Work) (n : NodeState) (r : Result Out NoMemory)
     → Some x ≡ here at.epoch.0 (node_part s at.c) → t ≡ node_lent s at.c → w ≡ f (node_env_of k t at) x → IsNodeSound s
-    → IfOk r (λ out. IsGone t at was [] w (serving_settled (node_env_of k t at).serve w.service) n out) → IfOk r (λ out. IsActed k s at was f n out)
-acted-by k s t at was f x w n (Ok out) found lends is sound gone =
-    let g : IsGone t at was [] (f (node_env_of k t at) x) (serving_settled (node_env_of k t at).serve (f (node_env_of k t at) x).service) n out =
-    subst (λ (u : Work). IsGone t at was [] u (serving_settled (node_env_of k t at).serve u.service) n out) is gone in
-    let h : IsGone (node_lent s at.c) at was [] (f (node_env_of k s at) x) (serving_settled (node_env_of k s at).serve (f (node_env_of k s at) x).service) n out =
-    subst (λ (u : NodeState). IsGone u at was [] (f (node_env_of k u at) x) (serving_settled (node_env_of k u at).serve (f (node_env_of k u at) x).service) n out) lends g in
-    gone-acted k s (node_lent s at.c) at was f x (f (node_env_of k s at) x) n out (sym found) refl refl sound h
-acted-by k s t at was f x w n (Err e) found lends is sound gone = tt
+    → IfOk r (λ out. HasTurned (may_give_back (node_env_of k t at) w) (node_env_of k t at).serve t at was w n out) → IfOk r (λ out. IsActed k s at was f n out)
+acted-by k s t at was f x w n (Ok out) found lends is sound turned =
+    let env : NodeEnv = node_env_of k s at in
+    let g : Turned k at was f x n out t = subst (λ (u : Work). HasTurned (may_give_back (node_env_of k t at) u) (node_env_of k t at).serve t at was u n out) is turned in
+    let h : Turned k at was f x n out (node_lent s at.c) = subst (Turned k at was f x n out) lends g in
+    let all = turned-ends k s at was x.0 (f env x) n out (may_give_back env (f env x)) (here-parts s at x (sym found)).0 sound h in
+    record { does = all.0 ∙ ap (acted k s at was f) found; sound = all.1 }
+acted-by k s t at was f x w n (Err e) found lends is sound turned = tt
 
 -- a segment was taken
 pub heard-sound : (b d : ControlBlock) (s : Said) (w : InHand) → d ≡ (on_segment b s).1 → IsInHandSound b w → IsInHandSound d w
@@ -172,7 +181,6 @@ none-found m c e = ap (λ l. get l c) e ∙ table.get-empty nat_cmp c
 pub none_sound : (s : NodeState) → s.conns ≡ table_begun → s.stays ≡ table.empty → s.kept ≡ table.empty → s.fetches ≡ table.empty → IsNodeSound s
 none_sound s conns stays kept fetches = record {
   stays = λ c. subst (λ row. IsAtRest row (get s.stays c)) (sym (none-found s.conns.rows c (ap (λ (t : Table). t.rows) conns))) (subst (IsAtRest None) (sym (none-found s.stays c stays)) tt);
-  remains = ap (λ (t : Table). t.leaving) conns;
   kept = none-empty s.kept kept;
   fetches = none-empty s.fetches fetches;
 }

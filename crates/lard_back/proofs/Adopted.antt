@@ -1,15 +1,15 @@
--- A connection is adopted, and its stay begins.
-use Rattle.std.proofs.Common.{◌≡◌, ℕ, ◌==◌, nat_lt, ◌&&◌, Bool, true, false, cond, List, [], ◌∷◌, ◌++◌, Option, Some, None, Result, Ok, Err, IfOk, OnOk, refl, sym, ap, subst, ◌∙◌, arith, rules}
+-- A connection is adopted, and its stay begins; a node that leaves refuses it.
+use Rattle.std.proofs.Common.{◌≡◌, ℕ, ◌==◌, nat_lt, ◌&&◌, Bool, true, false, cond, List, [], ◌∷◌, ◌++◌, Option, Some, None, Result, Ok, Err, IfOk, OnOk, refl, sym, ap, subst, ◌∙◌, arith}
 use Rattle.std.proofs.lemmas.Bool.{and_parts, cond-true, eq-eqb}
 use Rattle.std.specs.FinMap.{get, insert, remove}
 use Rattle.lard_back.specs.declared.hand.At.{At}
 use Rattle.lard_back.specs.declared.timers.Flags.{Flags}
 use Rattle.lard_back.specs.Hand.{node_lent}
-use Rattle.lard_back.specs.Place.{IsGone, ends_with, node_env_of, out_at}
+use Rattle.lard_back.specs.Place.{IsGone, ends_with, node_env_of, out_at, told_at}
 use Rattle.lard_back.specs.Sound.{IsAtRest, IsNodeSound, IsStaying}
 use Rattle.lard_back.specs.Timers.{timer_flags}
 use Rattle.lard_back.proofs.Acted.{ends-rest, put-sound, told-sound}
-use Rattle.lard_back.proofs.Deeds.{at-node, ends-did}
+use Rattle.lard_back.proofs.Deeds.{at-node, ends-did, told-did}
 use Rattle.lard_back.proofs.Putting.{closes-is}
 use Rattle.lard_base.specs.declared.errors.NoMemory.{NoMemory}
 use Rattle.lard_base.specs.declared.ids.Epoch.{Epoch}
@@ -25,18 +25,21 @@ use Rattle.lard_handoff_back.specs.declared.row.BackRow.{BackRow}
 use Rattle.lard_handoff_back.specs.declared.table.Adopt.{Adopt}
 use Rattle.lard_handoff_back.specs.declared.table.Adopt.TheVariants.{New, Again, Stale, Refuse}
 use Rattle.lard_handoff_back.specs.Back.{offer_answer, stay_row, staying, back_taken}
+use Rattle.lard_handoff_back.specs.Laws.{after_decision, decision_in}
 use Rattle.lard_handoff_back.specs.Leaving.{after_offer}
 use Rattle.lard_handoff_back.specs.Row.{is_gone}
-use Rattle.lard_handoff_back.specs.Table.{Table}
+use Rattle.lard_handoff_back.specs.Table.{Table, beside_in}
 use Rattle.lard_handoff_back.proofs.Putting.{put_in_twice}
 use Rattle.lard_journal.specs.declared.rec.Rec.{Rec}
 use Rattle.lard_journal.specs.declared.rec.Rec.TheVariants as rec
 use Rattle.lard_rules.specs.declared.node.NodeState.{NodeState}
 use Rattle.lard_rules.specs.declared.node.NodeTurn.{NodeTurn}
 use Rattle.lard_rules.specs.declared.stay.Stay.{Stay}
-use Rattle.lard_rules.specs.Node.{NodePart, node_begins, kept_after, node_offered, offered_by, taken_sent, turn_by, work_of}
+use Rattle.lard_rules.proofs.NodeCases.{decision-new}
+use Rattle.lard_rules.specs.Node.{NodePart, kept_after, kept_refused, node_begins, node_offered, node_saying, offered_by, refused_sent, taken_sent, turn_by, work_of}
 use Rattle.lard_rules.specs.NodePlace.{NodeSetting, node_deed, node_env, node_part, node_put, stores_told}
 use Rattle.lard_rules.specs.Stay.{NodeEnv, Work, goes_on, reads_batch}
+use Rattle.lard_resend.proofs.Lists.{list_got}
 use Rattle.lard_rules.specs.declared.places.Out.{Out}
 use Rattle.lard_rules.specs.declared.places.Ending.{Ending}
 use Rattle.lard_rules.specs.declared.places.Ending.TheVariants as ending
@@ -45,7 +48,7 @@ use Rattle.lard_rules.specs.Loop.{state_of}
 use Rattle.lard_rules.specs.Serving.{serving_settled}
 use Rattle.lard_stay.specs.declared.work.Work.{Work as InHand}
 use Rattle.lard_stay.specs.Work.{IsInHandSound, IsStaySound, work_seen}
-use Rattle.lard_table.proofs.Map.{get_inserted, put_got, put_twice}
+use Rattle.lard_table.proofs.Map.{get_inserted, put_got}
 use Rattle.lard_table.specs.Table.{put_or}
 
 -- ---- what is in hand of a stay that begins
@@ -88,11 +91,10 @@ module _ (m : Table) (c : ℕ) (epoch : Epoch) (parts : EndpointParts) where
   stays-new : staying epoch.0 (get (insert m.rows c (stay_row epoch parts)) c) ≡ Some (adopted parts)
   stays-new = ap (staying epoch.0) (get_inserted m.rows c (stay_row epoch parts)) ∙ cond-true (epoch.0 == epoch.0) (Some (adopted parts)) None (eq-eqb epoch.0 epoch.0 refl)
 
-  is-new : (n : Table) → n ≡ after_offer m c epoch parts (offer_answer epoch.0 (get m.rows c)) → New ≡ offer_answer epoch.0 (get m.rows c)
-      → n ≡ record m { rows = insert m.rows c (stay_row epoch parts) }
+  is-new : (n : Table) → n ≡ after_decision m c epoch parts → New ≡ decision_in m c epoch.0 → n ≡ record m { rows = insert m.rows c (stay_row epoch parts) }
   is-new n is new = is ∙ ap (after_offer m c epoch parts) (sym new)
 
-  pub found-new : (n : Table) → n ≡ after_offer m c epoch parts (offer_answer epoch.0 (get m.rows c)) → New ≡ offer_answer epoch.0 (get m.rows c) → staying epoch.0 (get n.rows c) ≡ Some (adopted parts)
+  pub found-new : (n : Table) → n ≡ after_decision m c epoch parts → New ≡ decision_in m c epoch.0 → staying epoch.0 (get n.rows c) ≡ Some (adopted parts)
   found-new n is new = ap (λ (l : Table). staying epoch.0 (get l.rows c)) (is-new n is new) ∙ stays-new
 
 -- nothing stays of a connection that is new
@@ -112,10 +114,6 @@ new-rest e (Some row) v new r = by (row.epoch.0 == e) (nat_lt row.epoch.0 e && i
   by false true is h = new-gone row.stage v (and_parts (nat_lt row.epoch.0 e) (is_gone row.stage) is).1 r
   by false false is h = absurd cc
 
--- no row refuses
-pub no-refusal : (e : ℕ) (o : Option BackRow) → Refuse ≡ offer_answer e o → ⊥
-no-refusal e o h = search rules
-
 -- ---- the rule
 
 abbrev Begun : NodeEnv → EndpointParts → Work
@@ -133,7 +131,7 @@ module _ (k : NodeSetting) (s : NodeState) (at : At) (parts : EndpointParts) whe
   Offered n out = (n, out) ≡ node_deed k s at.c (node_offered ruled (node_part s at.c) parts)
 
   abbrev Answers : Adopt → Type 0
-  Answers a = a ≡ offer_answer at.epoch.0 (get s.conns.rows at.c)
+  Answers a = a ≡ decision_in s.conns at.c at.epoch.0
 
   -- its row counts for nothing in what is put back
   part-same : (env : NodeEnv) (w : Work) (e : Ending) → kept_after env (node_part (adopting s at parts) at.c) w e ≡ kept_after env (node_part s at.c) w e
@@ -148,10 +146,12 @@ module _ (k : NodeSetting) (s : NodeState) (at : At) (parts : EndpointParts) whe
       ∙ (λ i. (stores_told (record (node_put s at.c q) { conns = put_in_twice s.conns at.c (Some (stay_row at.epoch parts)) q.row q.beside i }) t, out_at at was q t))
 
   none-stays : Answers New → IsNodeSound s → remove s.stays at.c ≡ s.stays
-  none-stays new sound = ap (put_or s.stays at.c) (sym (new-rest at.epoch.0 (get s.conns.rows at.c) (get s.stays at.c) new (sound.stays at.c))) ∙ put_got s.stays at.c
+  none-stays new sound = ap (put_or s.stays at.c) (sym (new-rest at.epoch.0 (get s.conns.rows at.c) (get s.stays at.c) (sym by-row) (sound.stays at.c))) ∙ put_got s.stays at.c where
+    by-row : offer_answer at.epoch.0 (get s.conns.rows at.c) ≡ New
+    by-row = (decision-new s.conns.leaving at.epoch.0 (get s.conns.rows at.c) (beside_in s.conns at.c) (sym new)).0
 
   -- what is in hand was taken out of this state
-  pub lent-new : {t : NodeState} {m : Table} → m ≡ after_offer s.conns at.c at.epoch parts (offer_answer at.epoch.0 (get s.conns.rows at.c))
+  pub lent-new : {t : NodeState} {m : Table} → m ≡ after_decision s.conns at.c at.epoch parts
       → t ≡ record s { conns = record m { rows = back_taken m.rows at.c (get m.rows at.c) (staying at.epoch.0 (get m.rows at.c)) } } → Answers New → IsNodeSound s → t ≡ node_lent (adopting s at parts) at.c
   lent-new {m = m} after lends new sound =
       let now : Table = record s.conns { rows = insert s.conns.rows at.c (stay_row at.epoch parts) } in
@@ -198,3 +198,37 @@ module _ (k : NodeSetting) (s : NodeState) (at : At) (parts : EndpointParts) whe
     pub new-sound : (r : Result Out NoMemory) → IfOk r (Ends t) → OnOk r (IsNodeSound n)
     new-sound (Ok out) gone = (both out gone).1
     new-sound (Err e) gone = tt
+
+  -- ---- it is refused
+
+  -- the table knows it
+  abbrev refusing : NodeState
+  refusing = record s { conns = record s.conns { refused = insert s.conns.refused at.c at.epoch } }
+
+  refused-put : IsNodeSound s → refusing ≡ node_put s at.c (kept_refused ruled (node_part s at.c))
+  refused-put sound = λ i. record s {
+    conns = record refusing.conns { rows = sym (put_got s.conns.rows at.c) i; returned = sym (put_got s.conns.returned at.c) i };
+    stays = sym (put_got s.stays at.c) i;
+    kept = sym (list_got s.kept at.c (sound.kept at.c)) i;
+    fetches = sym (list_got s.fetches at.c (sound.fetches at.c)) i;
+  }
+
+  module _ (n : NodeState) (was : Flags) {t : NodeState} (after : t ≡ record s { conns = after_decision s.conns at.c at.epoch parts }) (answers : Answers Refuse) (sound : IsNodeSound s) where
+    abbrev Refused : Out → Type 0
+    Refused out = (n, out) ≡ told_at t at was (node_saying (refused_sent ruled))
+
+    is-refused : t ≡ refusing
+    is-refused = after ∙ ap (λ (a : Adopt). record s { conns = after_offer s.conns at.c at.epoch parts a }) (sym answers)
+
+    pub refused-by : (r : Result Out NoMemory) → was ≡ timer_flags (node_part s at.c) → at.n ≡ k.n → IfOk r Refused → IfOk r (λ out. Offered n out)
+    refused-by (Ok out) flags node told =
+        told
+        ∙ told-did k s t at was (kept_refused ruled (node_part s at.c)) (node_saying (refused_sent ruled)) (is-refused ∙ refused-put sound) flags node
+        ∙ ap (λ (a : Adopt). node_deed k s at.c (offered_by ruled parts (node_part s at.c) a)) answers
+    refused-by (Err e) flags node told = tt
+
+    pub refused-sound : (r : Result Out NoMemory) → IfOk r Refused → OnOk r (IsNodeSound n)
+    refused-sound (Ok out) told =
+        let kept : IsNodeSound refusing = record { stays = sound.stays; kept = sound.kept; fetches = sound.fetches } in
+        subst IsNodeSound (ap (λ (x : NodeState × Out). x.0) (sym told)) (told-sound t (node_saying (refused_sent ruled)) (subst IsNodeSound (sym is-refused) kept))
+    refused-sound (Err e) told = tt

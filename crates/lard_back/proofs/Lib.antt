@@ -7,4 +7,5 @@ pub mod Keeping
 pub mod Messages
 pub mod Putting
 pub mod Queued
+pub mod Returning
 pub mod Turning

@@ -18,7 +18,8 @@ use Rattle.lard_endpoint.specs.Arriving.{on_segment}
 use Rattle.lard_endpoint.specs.Control.{ControlBlock, finishing}
 use Rattle.lard_handoff_back.specs.declared.table.Adopt.{Adopt}
 use Rattle.lard_handoff_back.specs.declared.table.Adopt.TheVariants.{New, Again, Stale, Refuse}
-use Rattle.lard_handoff_back.specs.Back.{awaits_ack, back_endpoint, offer_answer}
+use Rattle.lard_handoff_back.specs.Back.{back_endpoint}
+use Rattle.lard_handoff_back.specs.Leaving.{offer_decision}
 use Rattle.lard_journal.specs.declared.rec.Rec.{Rec}
 use Rattle.lard_journal.specs.declared.rec.Rec.TheVariants as rec
 use Rattle.lard_lateral.specs.Lateral.{is_from}
@@ -35,10 +36,10 @@ use Rattle.lard_rules.specs.declared.stay.Entry.{Entry}
 use Rattle.lard_rules.specs.declared.stay.Next.{Next}
 use Rattle.lard_rules.specs.declared.stay.Next.TheVariants.{Serve, Read, Stop}
 use Rattle.lard_rules.specs.declared.stay.Progress.{Progress}
-use Rattle.lard_rules.specs.declared.stay.Progress.TheVariants.{Named, Reading, Awaited, Ready}
+use Rattle.lard_rules.specs.declared.stay.Progress.TheVariants.{Reading, Ready}
 use Rattle.lard_rules.specs.declared.stay.Stay.{Stay}
-use Rattle.lard_rules.specs.Node.{NodeDeed, Does, Drops, NodePart, Says, node_begins, both_of, come_by, node_fired_by, gone, node_heard_by, here, is_tag_awaited, node_acknowledged, node_content, node_forwarded, node_offered, node_read, node_tagged, node_timer, offered_by, node_read_by, node_rests, node_saying, tagged_by, taken_sent, work_of}
-use Rattle.lard_rules.specs.NodePlace.{NodeSetting, aside, node_brought, completed, content_sent, disk_step, node_epoch_at, fetched, fetched_file, node_deed, node_env, node_gets, node_hears, node_part, node_step}
+use Rattle.lard_rules.specs.Node.{NodeDeed, Does, Drops, NodePart, Says, awaits_told, both_of, come_by, gives_back, gone, here, is_tag_awaited, may_give_back, node_acknowledged, node_begins, node_content, node_fired_by, node_forwarded, node_heard_by, node_offered, node_read, node_read_by, node_rests, node_saying, node_tagged, node_timer, node_turns, offered_by, tagged_by, taken_sent, told_kind, with_work, work_of}
+use Rattle.lard_rules.specs.NodePlace.{NodeSetting, aside, node_brought, completed, content_sent, disk_step, node_epoch_at, fetched, fetched_file, node_deed, node_env, node_gets, node_hears, node_leaves, node_part, node_step}
 use Rattle.lard_rules.specs.Stay.{NodeEnv, Work, asks_for, came_for, come_on, come_progress, entered, enters, enters_first, enters_one, goes_on, work_left, named_path, named_paths, next_of, noted, read_progress, reads_batch, reads_these, serves_by, serves_first, started, started_here, started_there, starts_at, starts_named, starts_one, tagged, stay_turn, turned}
 use Rattle.lard_reader.specs.Batches.{batch_of, bytes_used}
 use Rattle.lard_request.specs.declared.verdict.Verdict.{Verdict}
@@ -46,7 +47,7 @@ use Rattle.lard_resend.specs.Kept.{is_under, without}
 use Rattle.lard_rules.specs.declared.places.Out.{Out}
 use Rattle.lard_rules.specs.declared.places.Ending.{Ending}
 use Rattle.lard_rules.specs.declared.places.Turn.{Turn}
-use Rattle.lard_rules.specs.Loop.{Step, state_of}
+use Rattle.lard_rules.specs.Loop.{Step, Done, state_of}
 use Rattle.lard_rules.specs.Outs.{nothing_done}
 use Rattle.lard_rules.specs.Serving.{ServeEnv, Service, answered, serving_consumed, cut_off, passed_over, queued, serving_settled, spoken}
 use Rattle.lard_rules.proofs.Runs.{runs_keep}
@@ -184,7 +185,7 @@ module _ (env : NodeEnv) where
 
   turned-noted : (w : Work) (n : Next) → Noted w → NotedStep (turned env w n)
   turned-noted w Serve h = first-served w w.batch h
-  turned-noted w Read h = batch-noted false w h
+  turned-noted w Read h = cond_both env.leaving (Done w) (reads_batch env false w) NotedStep (λ t. h) (λ t. batch-noted false w h)
   turned-noted w Stop h = h
 
   goes-noted : (w : Work) → Noted w → Noted (goes_on env w)
@@ -215,38 +216,43 @@ module _ (env : NodeEnv) (p : NodePart) where
       let x : Work = goes_on env w in
       subst (λ (notes : List Rec). length x.jobs ≤ length notes) (sym (settled-notes env.serve x.service)) (goes-noted env w h)
 
+  turns-noted : (q : NodePart) (before : List (Place × List ℕ)) (w : Work) → Noted w → DeedNoted (node_turns env q before (goes_on env w))
+  turns-noted q before w h =
+      let x : Work = goes_on env w in
+      cond_both (may_give_back env x) (gives_back env q before x) (with_work env q before x) DeedNoted (λ t. goes-noted env w h) (λ t. rests-noted q before w h)
+
   heard-noted : (given : Result Said SegFault) (o : Option (ControlBlock × Stay)) → DeedNoted (node_heard_by env p given o)
   heard-noted (Err fault) o = tt
   heard-noted (Ok s) None = tt
-  heard-noted (Ok s) (Some x) = rests-noted p [] (work_of (on_segment x.0 s).1 x.1) (omega arith)
+  heard-noted (Ok s) (Some x) = turns-noted p [] (work_of (on_segment x.0 s).1 x.1) (omega arith)
 
   tag-noted : (number : ℕ) (nodes : List ℕ) (o : Option (ControlBlock × Stay)) → DeedNoted (tagged_by env number nodes p o)
   tag-noted number nodes None = tt
   tag-noted number nodes (Some x) =
       let q : NodePart = record p { kept = without kind.Ask 0 p.kept } in
       let w : Work = tagged env nodes (work_of x.0 x.1) in
-      cond_both (is_tag_awaited env number nodes p x.1) (Does (node_rests env q [] (goes_on env w))) Drops DeedNoted (λ t. rests-noted q [] w (tagged-noted env nodes (work_of x.0 x.1) (omega arith))) (λ t. tt)
+      cond_both (is_tag_awaited env number nodes p x.1) (node_turns env q [] (goes_on env w)) Drops DeedNoted (λ t. turns-noted q [] w (tagged-noted env nodes (work_of x.0 x.1) (omega arith))) (λ t. tt)
 
   come-noted : (from r : ℕ) (o : Option (ControlBlock × Stay)) → DeedNoted (come_by env from r p o)
   come-noted from r None = tt
   come-noted from r (Some x) =
       let q : NodePart = record p { fetches = without kind.Fetch r p.fetches } in
       let w : Work = came_for (come_progress from) r (work_of x.0 x.1) in
-      cond_both (is_from from env.epoch (find (is_under kind.Fetch r) p.fetches)) (Does (node_rests env q [] (goes_on env w))) Drops DeedNoted
-      (λ t. rests-noted q [] w (came-noted env (come_progress from) r (work_of x.0 x.1) (omega arith))) (λ t. tt)
+      cond_both (is_from from env.epoch (find (is_under kind.Fetch r) p.fetches)) (node_turns env q [] (goes_on env w)) Drops DeedNoted
+      (λ t. turns-noted q [] w (came-noted env (come_progress from) r (work_of x.0 x.1) (omega arith))) (λ t. tt)
 
   read-noted : (r : ℕ) (o : Option (ControlBlock × Stay)) → DeedNoted (node_read_by env r p o)
   read-noted r None = tt
-  read-noted r (Some x) = rests-noted p [] (came_for read_progress r (work_of x.0 x.1)) (came-noted env read_progress r (work_of x.0 x.1) (omega arith))
+  read-noted r (Some x) = turns-noted p [] (came_for read_progress r (work_of x.0 x.1)) (came-noted env read_progress r (work_of x.0 x.1) (omega arith))
 
   offered-noted : (parts : EndpointParts) (a : Adopt) → DeedNoted (offered_by env parts p a)
   offered-noted parts New = rests-noted p (taken_sent env) (state_of (reads_batch env true (node_begins env parts))) (batch-noted env true (node_begins env parts) (omega arith))
   offered-noted parts Again = tt
   offered-noted parts Stale = tt
-  offered-noted parts Refuse = tt
+  offered-noted parts Refuse = omega arith
 
-  acked-noted : DeedNoted (node_acknowledged env p)
-  acked-noted = cond_both (awaits_ack env.epoch p.row) (Does (record p { row = gone p.row; kept = without kind.Ended 0 p.kept }, node_saying [])) Drops DeedNoted (λ t. omega arith) (λ t. tt)
+  acked-noted : (back : Bool) → DeedNoted (node_acknowledged env back p)
+  acked-noted back = cond_both (awaits_told back env p) (Does (record p { row = gone p.row; kept = without (told_kind back) 0 p.kept }, node_saying [])) Drops DeedNoted (λ t. omega arith) (λ t. tt)
 
   fired-noted : (o : Option (ControlBlock × Stay)) → DeedNoted (node_fired_by env p o)
   fired-noted None = tt
@@ -282,10 +288,11 @@ module _ (k : NodeSetting) (s : NodeState) where
   still = omega arith
 
   front-grows : (c epoch : ℕ) (b : Body) → Grows s (node_hears k s place.Front c epoch b)
-  front-grows c epoch (body.Offer parts) = deed-grows c (node_offered (node_env k s c epoch) (node_part s c) parts) (offered-noted (node_env k s c epoch) (node_part s c) parts (offer_answer epoch (node_part s c).row))
+  front-grows c epoch (body.Offer parts) = deed-grows c (node_offered (node_env k s c epoch) (node_part s c) parts) (offered-noted (node_env k s c epoch) (node_part s c) parts (offer_decision (node_leaves s) epoch (node_part s c).row (node_part s c).beside))
   front-grows c epoch (body.Forward bytes) = deed-grows c (node_forwarded (node_env k s c epoch) (node_part s c) (decoded bytes c ToCluster)) (heard-noted (node_env k s c epoch) (node_part s c) (decoded bytes c ToCluster) (here epoch (node_part s c)))
   front-grows c epoch (body.Tag number nodes) = deed-grows c (node_tagged (node_env k s c epoch) (node_part s c) number nodes) (tag-noted (node_env k s c epoch) (node_part s c) number nodes (here epoch (node_part s c)))
-  front-grows c epoch body.EndedAck = deed-grows c (node_acknowledged (node_env k s c epoch) (node_part s c)) (acked-noted (node_env k s c epoch) (node_part s c))
+  front-grows c epoch body.EndedAck = deed-grows c (node_acknowledged (node_env k s c epoch) false (node_part s c)) (acked-noted (node_env k s c epoch) (node_part s c) false)
+  front-grows c epoch body.Given = deed-grows c (node_acknowledged (node_env k s c epoch) true (node_part s c)) (acked-noted (node_env k s c epoch) (node_part s c) true)
   front-grows c epoch _ = still
 
   node-grows : (from c epoch : ℕ) (b : Body) → Grows s (node_hears k s (place.Node from) c epoch b)

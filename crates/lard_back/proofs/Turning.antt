@@ -1,19 +1,25 @@
 -- What a turn leaves is sound, and its end may be told.
-use Rattle.std.proofs.Common.{◌≡◌, ℕ, suc, ◌+◌, ◌≤◌, List, [], ◌∷◌, length, Option, Some, None, Result, Ok, IfOk, All, IfSome, refl, sym, ap, subst, ◌∙◌, arith}
+use Rattle.std.proofs.Common.{◌≡◌, ℕ, suc, ◌+◌, ◌≤◌, List, [], ◌∷◌, length, Option, Some, None, Result, Ok, Err, IfOk, All, IfSome, refl, sym, ap, subst, ◌∙◌, arith}
 use Rattle.std.proofs.lemmas.Bool.{cond_both}
+use Rattle.lard_back.specs.declared.hand.At.{At}
 use Rattle.lard_back.specs.declared.hand.Rest.{Rest}
+use Rattle.lard_back.specs.declared.hand.Rested.TheVariants as rested
+use Rattle.lard_back.specs.declared.timers.Flags.{Flags}
 use Rattle.lard_back.specs.Bounds.{AreWants, MayTellEnd}
 use Rattle.lard_back.specs.Bounds as bounds
 use Rattle.lard_back.specs.Hand.{work_rest, node_rested_in}
-use Rattle.lard_back.specs.Place.{IsDone}
+use Rattle.lard_back.specs.Place.{IsBack, IsDone, give_bytes, given_up, silent_turn, turn_closed}
 use Rattle.lard_back.specs.Sound.{EndsSound, IsWorkSound, stay_in}
 use Rattle.lard_back.proofs.Keeping.{speaks-same}
+use Rattle.lard_base.specs.declared.errors.NoMemory.{NoMemory}
 use Rattle.lard_base.specs.declared.place.Place.{Place}
 use Rattle.lard_base.specs.declared.place.Reason.{Reason}
 use Rattle.lard_base.specs.declared.place.Reason.TheVariants.{Closed, Peer, Limit}
 use Rattle.lard_endpoint.specs.Control.{ControlBlock}
 use Rattle.lard_endpoint.specs.Moving.{end_reason, final_of, may_end}
 use Rattle.lard_message.specs.Message.{IsCount}
+use Rattle.lard_rules.specs.declared.node.NodeState.{NodeState}
+use Rattle.lard_rules.specs.declared.places.Out.{Out}
 use Rattle.lard_rules.specs.declared.stay.Asked.{Asked}
 use Rattle.lard_rules.specs.declared.stay.Want.{Want}
 use Rattle.lard_rules.specs.Stay.{Work}
@@ -21,7 +27,8 @@ use Rattle.lard_recv.specs.Recv.{Received}
 use Rattle.lard_rules.specs.declared.places.Ending.{Ending}
 use Rattle.lard_rules.specs.declared.places.Ending.TheVariants.{Here, Over}
 use Rattle.lard_rules.specs.declared.places.Turn.{Turn}
-use Rattle.lard_rules.specs.Serving.{ServeEnv, Service, cut_off, rested, serving_settled, spoken}
+use Rattle.lard_rules.specs.Serving.{ServeEnv, Service, cut_off, serving_settled, spoken}
+use Rattle.lard_rules.specs.Serving as serving
 use Rattle.lard_rules.specs.Speaking.{speaks}
 use Rattle.lard_serving.specs.declared.answering.Service.{Service as Served}
 use Rattle.lard_serving.specs.Bounds.{IsTurn}
@@ -39,7 +46,7 @@ same-sound b d w e s = record {
   asks = s.asks;
 }
 
-rested-sound : (b d : ControlBlock) (w : Work) → d.recv ≡ b.recv → IsStaySound b (stay_in w) → EndsSound (rested d w.service.count) w
+rested-sound : (b d : ControlBlock) (w : Work) → d.recv ≡ b.recv → IsStaySound b (stay_in w) → EndsSound (serving.rested d w.service.count) w
 rested-sound b d w e s = cond_both (may_end d) (Over (final_of d (end_reason d))) (Here d w.service.count) (λ end. EndsSound end w) (λ t. tt) (λ t. same-sound b d w e s)
 
 pub spoken-sound : (env : ServeEnv) (w : Work) (before : List (Place × List ℕ)) → IsWorkSound w → EndsSound (spoken env w.service before).0 w
@@ -56,7 +63,7 @@ no-count Limit = tt
 no-count Closed = refl
 no-count Peer = refl
 
-rested-tells : (d : ControlBlock) (count : ℕ) → MayTellEnd (node_rested_in (rested d count)) None
+rested-tells : (d : ControlBlock) (count : ℕ) → MayTellEnd (node_rested_in (serving.rested d count)) None
 rested-tells d count = cond_both (may_end d) (Over (final_of d (end_reason d))) (Here d count) (λ end. MayTellEnd (node_rested_in end) None) (λ t. no-count (end_reason d)) (λ t. tt)
 
 pub spoken-tells : (env : ServeEnv) (s : Service) (before : List (Place × List ℕ)) → MayTellEnd (node_rested_in (spoken env s before).0) None
@@ -83,6 +90,13 @@ wants-fit (w ∷ ws) h =
     let first : IsWant w = h 0 w (omega arith) in
     (first, wants-fit ws (λ k d lt. h (suc k) d (omega (arith, lt))))
 
+-- the same of a rest that was taken apart
+pub rest-asks : (b : ControlBlock) (w : InHand) (rest : Rest) → IsInHandSound b w → rest ≡ work_rest (work_seen b w) → bounds.IsSpelledAsk rest.asked
+rest-asks b w rest s left = subst (λ (r : Rest). bounds.IsSpelledAsk r.asked) (sym left) (ask-fits w.asked s.asked)
+
+pub rest-wants : (b : ControlBlock) (w : InHand) (rest : Rest) → IsInHandSound b w → rest ≡ work_rest (work_seen b w) → AreWants rest.wants
+rest-wants b w rest s left = subst (λ (r : Rest). AreWants r.wants) (sym left) (wants-fit w.wants s.wants)
+
 -- the endpoint said what it may
 pub settled-is : (env : ServeEnv) (b : ControlBlock) (w : InHand) (e : Ending) (turn : Turn) → IsInHandSound b w → length w.jobs ≤ 9
     → (e, turn) ≡ serving_settled env (work_seen b w).service → IsTurn turn → IsDone (work_seen b w) (serving_settled env (work_seen b w).service) e (record { turn = turn; rest = work_rest (work_seen b w) })
@@ -108,3 +122,11 @@ settled-by env b w service rest e turn s few same left is fits =
 
 pub of_ok : {A E : Type 0} (P : A → Type 0) (r : Result A E) (a : A) → r ≡ Ok a → IfOk r P → P a
 of_ok P r a is h = subst (λ x. IfOk x P) is h
+
+-- ---- the connection went back
+
+pub back-by : (s t : NodeState) (at : At) (was : Flags) (w : Work) (before : List (Place × List ℕ)) (rest : Rest) (bytes : List ℕ) (turn : Turn) (n : NodeState) (r : Result Out NoMemory)
+    → t ≡ given_up s at.c w.service.count → before ≡ [] → rest ≡ work_rest w → bytes ≡ give_bytes s at.c w.service → turn ≡ silent_turn w.service
+    → IfOk r (λ out. (n, out) ≡ turn_closed t at was before rest (rested.Back bytes) turn) → IfOk r (λ out. IsBack s at was w n out)
+back-by s t at was w before rest bytes turn n (Ok out) up none left given says is = is ∙ (λ i. turn_closed (up i) at was (none i) (left i) (rested.Back (given i)) (says i))
+back-by s t at was w before rest bytes turn n (Err e) up none left given says is = tt

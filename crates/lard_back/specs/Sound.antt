@@ -1,5 +1,5 @@
 -- What holds of a node's state between two steps.
-use Rattle.std.specs.Prelude.{◌≡◌, ℕ, false, List, [], Option, Some, None}
+use Rattle.std.specs.Prelude.{◌≡◌, ℕ, List, [], Option, Some, None}
 use Rattle.std.specs.FinMap as table
 use Rattle.std.specs.FinMap.{FinMap}
 use Rattle.std.specs.Ordering.{nat_cmp}
@@ -35,7 +35,6 @@ NoneEmpty m = (c : ℕ) → table.get m c ≡ Some [] → ⊥
 
 pub record IsNodeSound (s : NodeState) : Type 0 where
   pub stays : (c : ℕ) → IsAtRest (table.get s.conns.rows c) (table.get s.stays c)
-  pub remains : s.conns.leaving ≡ false
   pub kept : NoneEmpty s.kept
   pub fetches : NoneEmpty s.fetches
 

@@ -1,25 +1,26 @@
 //! What is done to a connection that is here: it is taken out, its rule is followed with all of it in hand, and it is put back.
 
-ghost use Rattle.std.specs.Prelude.{◌≡◌, ◌+◌, ◌^◌, ◌<◌, ◌≤◌, [], length, true, IfOk};
+ghost use Rattle.std.specs.Prelude.{◌≡◌, ◌+◌, ◌^◌, ◌<◌, ◌≤◌, [], length, true, IfOk, OnOk};
 ghost use Rattle.std.specs.FinMap as table;
 ghost use Rattle.lard_back.specs.Bounds.{AreMessages, AreWants, IsSpelledAsk, IsNodeOut, MayTellEnd};
 ghost use Rattle.lard_back.specs.Hand.{work_rest};
-ghost use Rattle.lard_back.specs.Place.{IsActed, IsDone, IsGone, turn_closed, node_env_of, node_setting_seen, told_at};
+ghost use Rattle.lard_back.specs.Place.{HasTurned, IsActed, IsBack, IsDone, IsGone, turn_closed, node_env_of, node_setting_seen, silent_turn, told_at};
 ghost use Rattle.lard_back.specs.Sound.{IsNodeSound};
 ghost use Rattle.lard_base.specs.declared.limits.TheConstants.{MAX_STREAM_BYTES};
 ghost use Rattle.lard_endpoint.specs.Arriving.{on_segment};
 ghost use Rattle.lard_endpoint.specs.Control.{ControlBlock};
 ghost use Rattle.lard_handoff_back.specs.Back.{back_may_put};
-ghost use Rattle.lard_rules.specs.Node.{work_of};
+ghost use Rattle.lard_endpoint.specs.Moving.{may_freeze};
+ghost use Rattle.lard_rules.specs.Node.{may_give_back, work_of};
 ghost use Rattle.lard_rules.specs.Stay.{came_for, come_progress, goes_on, read_progress, tagged};
 ghost use Rattle.lard_rules.specs.Serving.{serving_settled};
 ghost use Rattle.lard_rules.specs.Speaking.{AreShort};
 ghost use Rattle.lard_segment.specs.Segment.{said};
 ghost use Rattle.lard_serving.specs.Bounds.{IsTurn};
-ghost use Rattle.lard_serving.specs.Serving.{env_seen};
+ghost use Rattle.lard_serving.specs.Serving.{env_seen, service_of};
 ghost use Rattle.lard_stay.specs.Work.{IsInHandSound, work_seen};
 
-use crate::hand::{At, Rest, Rested, leave, put_back, take_out};
+use crate::hand::{At, Rest, Rested, hand_back, leave, put_back, take_out};
 use crate::stores::tell;
 use crate::timers::{Flags, changes, running};
 use lard_base::{NoMemory, NodeId, Place, Sends};
@@ -28,7 +29,7 @@ use lard_files::Files;
 use lard_rules::{Ending, NodeState, NodeTurn, Out, Turn};
 use lard_segment::Segment;
 use lard_serving::{Service, nothing, settled};
-use lard_stay::{Env, Work, come, complete, go_on, tag};
+use lard_stay::{Env, Work, come, complete, go_on, is_to_read, tag};
 use std::alloc::Global;
 
 /// What never changes in a run.
@@ -182,27 +183,37 @@ pub fn read(
     go(state, alloc, setting, at, was, endpoint, work)
 }
 
-/// A stay goes on from what is in hand, and all of it is put back; the endpoint also where memory did not suffice for that.
+/// A stay goes on from what is in hand: its connection goes back, or all of it is put back, the endpoint also where memory
+/// did not suffice for that.
 fn go(
     state: &mut NodeState,
     alloc: Global,
     setting: &Setting<'_>,
     at: &At,
     was: Flags,
-    endpoint: Endpoint,
-    work: Work,
+    mut endpoint: Endpoint,
+    mut work: Work,
 ) -> Result<Out, NoMemory>
     requires out { back_may_put (table.get state.old.conns.rows at.now.c) ≡ true }
     requires sound { IsInHandSound endpoint work }
     requires jobs { length work.jobs ≤ 8 }
     requires stream { setting.now.stream ≤ MAX_STREAM_BYTES }
     requires few { length state.old.disk < 2 ^ 31 }
-    ensures gone { IfOk result (λ out. let env = node_env_of (node_setting_seen setting.now) state.old at.now in let w = goes_on env (work_seen endpoint work) in IsGone state.old at.now was [] w (serving_settled env.serve w.service) state.new out) }
+    ensures turned { IfOk result (λ out. let env = node_env_of (node_setting_seen setting.now) state.old at.now in let w = goes_on env (work_seen endpoint work) in HasTurned (may_give_back env w) env.serve state.old at.now was w state.new out) }
     ensures fits { IfOk result IsNodeOut }
 {
-    let (ending, done) = follow(alloc, setting, at, state, endpoint, work);
-    let rested = put_back(&mut state.conns, at.c, ending);
-    close(state, alloc, at, was, Sends::new(alloc), rested, done?)
+    match follow(alloc, setting, at, state, &mut endpoint, &mut work) {
+        Ok(back) => {
+            if back {
+                return give(state, alloc, at, was, endpoint, work);
+            }
+            return keep(state, alloc, setting, at, was, endpoint, work);
+        }
+        Err(NoMemory) => {
+            let _ = put_back(&mut state.conns, at.c, Ending::Here { endpoint, count: 0 });
+            return Err(NoMemory);
+        }
+    }
 }
 
 /// What serving rests on.
@@ -217,20 +228,24 @@ pub fn serve<'a>(setting: &Setting<'a>, at: &At) -> lard_serving::Env<'a>
     }
 }
 
-/// A stay goes on with the endpoint in hand, which comes back in each case.
+/// A stay goes on with the endpoint in hand. The answer is whether its connection goes back to the front end: the node
+/// leaves, a batch is to be read, and the endpoint may be frozen.
 fn follow(
     alloc: Global,
     setting: &Setting<'_>,
     at: &At,
     state: &NodeState,
-    mut endpoint: Endpoint,
-    mut work: Work,
-) -> (Ending, Result<Done, NoMemory>)
-    requires sound { IsInHandSound endpoint work }
-    requires jobs { length work.jobs ≤ 8 }
+    endpoint: &mut Endpoint,
+    work: &mut Work,
+) -> Result<bool, NoMemory>
+    requires sound { IsInHandSound endpoint.old work.old }
+    requires jobs { length work.old.jobs ≤ 8 }
     requires stream { setting.now.stream ≤ MAX_STREAM_BYTES }
     requires few { length state.now.disk < 2 ^ 31 }
-    ensures done { IfOk result.1 (λ done. let env = node_env_of (node_setting_seen setting.now) state.now at.now in let w = goes_on env (work_seen endpoint work) in IsDone w (serving_settled env.serve w.service) result.0 done) }
+    ensures turns { OnOk result (work_seen endpoint.new work.new ≡ goes_on (node_env_of (node_setting_seen setting.now) state.now at.now) (work_seen endpoint.old work.old)) }
+    ensures back { IfOk result (λ back. back ≡ may_give_back (node_env_of (node_setting_seen setting.now) state.now at.now) (work_seen endpoint.new work.new)) }
+    ensures sound { OnOk result (IsInHandSound endpoint.new work.new) }
+    ensures jobs { OnOk result (length work.new.jobs ≤ 8) }
 {
     let env = Env {
         serve: serve(setting, at),
@@ -240,9 +255,89 @@ fn follow(
         queue: state.disk.len(),
         leaving: state.conns.is_leaving(),
     };
-    match go_on(alloc, &env, &mut endpoint, &mut work) {
-        Ok(()) => return settle(alloc, &env.serve, endpoint, work),
-        Err(NoMemory) => return (Ending::Here { endpoint, count: 0 }, Err(NoMemory)),
+    go_on(alloc, &env, endpoint, work)?;
+    if !env.leaving {
+        return Ok(false);
+    }
+    Ok(is_to_read(endpoint, work) && endpoint.can_freeze())
+}
+
+/// The endpoint says what it may, and all that was in hand is put back.
+fn keep(
+    state: &mut NodeState,
+    alloc: Global,
+    setting: &Setting<'_>,
+    at: &At,
+    was: Flags,
+    endpoint: Endpoint,
+    work: Work,
+) -> Result<Out, NoMemory>
+    requires out { back_may_put (table.get state.old.conns.rows at.now.c) ≡ true }
+    requires sound { IsInHandSound endpoint work }
+    requires jobs { length work.jobs ≤ 8 }
+    requires few { length state.old.disk < 2 ^ 31 }
+    ensures gone { IfOk result (λ out. let w = work_seen endpoint work in IsGone state.old at.now was [] w (serving_settled (node_env_of (node_setting_seen setting.now) state.old at.now).serve w.service) state.new out) }
+    ensures fits { IfOk result IsNodeOut }
+{
+    let (ending, done) = settle(alloc, &serve(setting, at), endpoint, work);
+    let rested = put_back(&mut state.conns, at.c, ending);
+    close(state, alloc, at, was, Sends::new(alloc), rested, done?)
+}
+
+/// The connection goes back to the front end before its endpoint says anything. Without memory the state is of no use any
+/// more but to be spent.
+fn give(
+    state: &mut NodeState,
+    alloc: Global,
+    at: &At,
+    was: Flags,
+    endpoint: Endpoint,
+    work: Work,
+) -> Result<Out, NoMemory>
+    requires out { back_may_put (table.get state.old.conns.rows at.now.c) ≡ true }
+    requires leaves { state.old.conns.leaving ≡ true }
+    requires still { may_freeze endpoint ≡ true }
+    requires sound { IsInHandSound endpoint work }
+    requires jobs { length work.jobs ≤ 8 }
+    requires few { length state.old.disk < 2 ^ 31 }
+    ensures back { IfOk result (λ out. IsBack state.old at.now was (work_seen endpoint work) state.new out) }
+    ensures fits { IfOk result IsNodeOut }
+{
+    endpoint.law();
+    let (service, rest) = apart(work);
+    let count = service.count;
+    let given = hand_back(&mut state.conns, alloc, at.c, endpoint, count)?;
+    let done = Done {
+        turn: silent(alloc, service),
+        rest,
+    };
+    close(
+        state,
+        alloc,
+        at,
+        was,
+        Sends::new(alloc),
+        Rested::Back(given),
+        done,
+    )
+}
+
+/// The turn of what was served, in which the endpoint says nothing.
+fn silent(alloc: Global, service: Service) -> Turn
+    requires { service.answered ≤ MAX_STREAM_BYTES }
+    ensures turn { (b : ControlBlock) → result ≡ silent_turn (service_of b service) }
+    ensures fits { IsTurn result }
+{
+    let Service {
+        count: _,
+        notes,
+        answered,
+        over: _,
+    } = service;
+    Turn {
+        notes,
+        segments: Sends::new(alloc),
+        answered,
     }
 }
 

@@ -1,15 +1,18 @@
 //! A connection in hand: its endpoint and its stay are taken out for a rule and put back behind it.
 
-ghost use Rattle.std.specs.Prelude.{◌≡◌, [], ◌∷◌, true, is_some, Some, IfOk, IsSome, OnOk, OnSome};
+ghost use Rattle.std.specs.Prelude.{◌≡◌, ◌≤◌, ◌-◌, [], ◌∷◌, true, is_some, length, Some, IfOk, IsSome, OnOk, OnSome};
 ghost use Rattle.std.specs.FinMap as table;
 ghost use Rattle.lard_back.specs.Bounds.{AreMessages, AreWants, IsSpelledAsk, MayTellEnd};
-ghost use Rattle.lard_back.specs.Hand.{end_sent, gave_at, node_left, lent_if, node_rested_in, stage_of, turn_at};
+ghost use Rattle.lard_back.specs.Hand.{end_sent, gave_at, handed_back, node_left, lent_if, node_rested_in, stage_of, stay_epoch, turn_at};
+ghost use Rattle.lard_base.specs.declared.limits.TheConstants.{MAX_MESSAGE_BYTES};
+ghost use Rattle.lard_endpoint.specs.Moving.{may_freeze, parts_of};
 ghost use Rattle.lard_handoff_back.specs.Back.{back_may_put, back_with_stage};
-ghost use Rattle.lard_rules.specs.Node.{here};
+ghost use Rattle.lard_message.specs.declared.message.Body.TheVariants as body;
+ghost use Rattle.lard_rules.specs.Node.{here, message};
 ghost use Rattle.lard_rules.specs.NodePlace.{node_part};
 
-use crate::sends::{ask, end, want_all};
-use lard_base::{ConnId, Epoch, Items, NoMemory, NodeId, Place, Sends};
+use crate::sends::{ask, end, tell_last, want_all};
+use lard_base::{Bytes, ConnId, Epoch, Items, NoMemory, NodeId, Place, Sends, TimerKind};
 use lard_disk::Job;
 use lard_endpoint::{Endpoint, Final};
 use lard_handoff_back::BackTable;
@@ -44,12 +47,14 @@ pub struct Rest {
 }
 
 /// Where a connection is at the end of a turn, without its endpoint.
-#[derive(Clone, Copy, Debug)]
+#[derive(Debug, Drop)]
 pub enum Rested {
     /// Still here; so many responses were queued.
     Here(u32),
     /// It ended, with these numbers.
     Over(Final),
+    /// It went back to the front end, with the bytes of this Give.
+    Back(Bytes),
 }
 
 /// Takes the endpoint and the stay of a connection out, where it is here in this epoch; else `None`, and nothing
@@ -112,8 +117,32 @@ pub fn put_back(conns: &mut BackTable, c: ConnId, ending: Ending) -> Rested
     }
 }
 
-/// The end of a turn, once the endpoint is back: these messages go out and what the turn asks for, and the stay goes on
-/// or ends. Without memory the state is of no use any more but to be spent.
+/// Gives an endpoint that was taken out to the front end, where the node leaves and it may be frozen: it goes on from the
+/// parts of the Give that is answered, with so many responses. Without memory it is put back.
+pub fn hand_back(
+    conns: &mut BackTable,
+    alloc: Global,
+    c: ConnId,
+    endpoint: Endpoint,
+    served: u32,
+) -> Result<Bytes, NoMemory>
+    requires out { back_may_put (table.get conns.old.rows c) ≡ true }
+    requires leaves { conns.old.leaving ≡ true }
+    requires still { may_freeze endpoint ≡ true }
+    requires served { served ≤ endpoint.recv.got - length endpoint.recv.unread }
+    ensures bytes { IfOk result (λ bytes. bytes ≡ message c (stay_epoch (table.get conns.old.rows c)) (body.Give (parts_of endpoint served))) }
+    ensures size { IfOk result (λ bytes. length bytes ≤ MAX_MESSAGE_BYTES) }
+    ensures after { OnOk result (conns.new ≡ handed_back conns.old c served) }
+{
+    conns.put(c, endpoint);
+    let Some(bytes) = conns.give_back(alloc, c, served)? else {
+        unreachable!()
+    };
+    Ok(bytes)
+}
+
+/// The end of a turn, once the endpoint is back: these messages go out and what the turn asks for, and the stay goes on,
+/// ends or went back. Without memory the state is of no use any more but to be spent.
 pub fn leave(
     state: &mut NodeState,
     alloc: Global,
@@ -161,6 +190,18 @@ pub fn leave(
         Rested::Over(last) => {
             state.fetches.forget(at.c);
             end(&mut state.kept, alloc, at, last, over, &mut messages)?;
+            gave(alloc, at)?
+        }
+        Rested::Back(bytes) => {
+            state.fetches.forget(at.c);
+            tell_last(
+                &mut state.kept,
+                alloc,
+                at,
+                TimerKind::Give,
+                bytes,
+                &mut messages,
+            )?;
             gave(alloc, at)?
         }
     };

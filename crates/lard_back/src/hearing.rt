@@ -119,10 +119,10 @@ fn hear_front(
         Body::Fetch { .. } => return Ok(nothing(alloc)),
         Body::Content { .. } => return Ok(nothing(alloc)),
         Body::Ended { .. } => return Ok(nothing(alloc)),
-        Body::EndedAck => return acknowledged(state, alloc, at),
+        Body::EndedAck => return acknowledged(state, alloc, at, false),
         Body::Refused => return Ok(nothing(alloc)),
         Body::Give(_) => return Ok(nothing(alloc)),
-        Body::Given => return Ok(nothing(alloc)),
+        Body::Given => return acknowledged(state, alloc, at, true),
     }
 }
 

@@ -1,37 +1,38 @@
-//! An Offer comes: a connection that is new to the node is adopted, and its stay begins.
+//! An Offer comes: a connection that is new to the node is adopted, and its stay begins; a node that leaves refuses it.
 
-ghost use Rattle.std.specs.Prelude.{◌≡◌, ◌^◌, ◌<◌, ◌≤◌, length, true, false, IfOk, OnOk};
+ghost use Rattle.std.specs.Prelude.{◌≡◌, ◌^◌, ◌<◌, ◌≤◌, [], ◌∷◌, length, true, IfOk, OnOk};
 ghost use Rattle.std.specs.FinMap as table;
 ghost use Rattle.lard_back.specs.Bounds.{IsNodeOut};
-ghost use Rattle.lard_back.specs.Place.{IsDone, IsGone, node_env_of, node_setting_seen};
+ghost use Rattle.lard_back.specs.Place.{IsDone, IsGone, node_env_of, node_setting_seen, told_at};
 ghost use Rattle.lard_back.specs.Sound.{IsNodeSound};
 ghost use Rattle.lard_base.specs.declared.limits.TheConstants.{MAX_STREAM_BYTES};
 ghost use Rattle.lard_base.specs.Parts.{IsValidParts};
 ghost use Rattle.lard_endpoint.specs.Moving.{adopted};
-ghost use Rattle.lard_handoff_back.specs.Back.{back_may_put, offer_answer};
-ghost use Rattle.lard_handoff_back.specs.Leaving.{after_offer};
-ghost use Rattle.lard_rules.specs.Node.{node_begins, node_offered, taken_sent};
+ghost use Rattle.lard_handoff_back.specs.Back.{back_may_put};
+ghost use Rattle.lard_rules.specs.Node.{message, node_begins, node_offered, node_saying, taken_sent};
 ghost use Rattle.lard_rules.specs.NodePlace.{node_deed, node_env, node_part};
 ghost use Rattle.lard_rules.specs.Stay.{goes_on, reads_batch};
 ghost use Rattle.lard_rules.specs.Loop.{state_of};
 ghost use Rattle.lard_rules.specs.Serving.{serving_settled};
 ghost use Rattle.lard_stay.specs.Work.{IsInHandSound, stay_env_seen, work_seen};
 
-use crate::acting::{Done, Setting, close, serve, settle};
+use crate::acting::{Done, Setting, close, serve, settle, tell_turn};
 use crate::hand::{At, put_back};
-use crate::sends::{say, taken};
+use crate::rules::saying;
+use crate::sends::{refused, say, taken};
 use crate::timers::{Flags, running};
 use lard_base::{EndpointParts, Items, NoMemory, Place};
 use lard_endpoint::Endpoint;
-use lard_handoff_back::{Adopt, BackTable};
+use lard_handoff_back::Adopt;
 use lard_journal::Rec;
+use lard_message::Body;
 use lard_rules::{Ending, NodeState, Out, Stay};
 use lard_serving::nothing;
 use lard_stay::{Env, Work, begin};
 use std::alloc::Global;
 
-/// An Offer comes, with parts that are valid. A new one is adopted, one that was decided is answered again, and an old
-/// one is dropped. Without memory the state is of no use any more but to be spent.
+/// An Offer comes, with parts that are valid. A new one is adopted, or refused where the node leaves; one that was decided
+/// is answered again, and an old one is dropped. Without memory the state is of no use any more but to be spent.
 pub fn offered(
     state: &mut NodeState,
     alloc: Global,
@@ -49,7 +50,7 @@ pub fn offered(
     ensures fits { IfOk result IsNodeOut }
 {
     let was = running(state, at.c);
-    match decide(&mut state.conns, alloc, at, parts)? {
+    match state.conns.on_offer(alloc, at.c, at.epoch, parts)? {
         Adopt::New => {
             let Some(endpoint) = state.conns.take(at.c, at.epoch) else {
                 unreachable!()
@@ -58,25 +59,19 @@ pub fn offered(
         }
         Adopt::Again => return Ok(say(alloc, taken(alloc, at)?)),
         Adopt::Stale => return Ok(nothing(alloc)),
-        Adopt::Refuse => unreachable!(),
+        Adopt::Refuse => return refuse(state, alloc, at, was),
     }
 }
 
-/// What an Offer is to a node that does not leave, of which the table knows then.
-#[tactic(auto, using(lard_handoff_back::proofs::Leaving::stays_answer))]
-fn decide(
-    conns: &mut BackTable,
-    alloc: Global,
-    at: &At,
-    parts: &EndpointParts,
-) -> Result<Adopt, NoMemory>
-    requires remains { conns.old.leaving ≡ false }
-    requires valid { IsValidParts parts.now }
-    ensures answer { IfOk result (λ adopt. adopt ≡ offer_answer at.now.epoch.0 (table.get conns.old.rows at.now.c)) }
-    ensures ok { OnOk result (conns.new ≡ after_offer conns.old at.now.c at.now.epoch parts.now (offer_answer at.now.epoch.0 (table.get conns.old.rows at.now.c))) }
+/// The front end is told that the node refuses the connection; the table knows it. Without memory the state is of no use any
+/// more but to be spent.
+fn refuse(state: &mut NodeState, alloc: Global, at: &At, was: Flags) -> Result<Out, NoMemory>
+    requires few { length state.old.disk < 2 ^ 31 }
+    ensures told { IfOk result (λ out. (state.new, out) ≡ told_at state.old at.now was (node_saying ((Place.Front, message at.now.c at.now.epoch.0 Body.Refused) ∷ []))) }
+    ensures fits { IfOk result IsNodeOut }
 {
-    conns.law();
-    conns.on_offer(alloc, at.c, at.epoch, parts)
+    let messages = refused(alloc, at)?;
+    tell_turn(state, alloc, at, was, saying(alloc, messages))
 }
 
 /// The stay of an endpoint that was just adopted of these parts begins: Taken is the first of its messages.

@@ -1,14 +1,14 @@
 //! The rules of a node over one connection.
 
-ghost use Rattle.std.specs.Prelude.{◌≡◌, ◌^◌, ◌<◌, ◌≤◌, false, [], length, IfOk, OnOk};
+ghost use Rattle.std.specs.Prelude.{◌≡◌, ◌^◌, ◌<◌, ◌≤◌, length, IfOk, OnOk};
 ghost use Rattle.std.specs.FinMap as table;
 ghost use Rattle.lard_back.specs.Bounds.{IsNodeOut};
 ghost use Rattle.lard_back.specs.Place.{node_setting_seen};
-ghost use Rattle.lard_back.specs.Awaiting.{awaits};
+ghost use Rattle.lard_back.specs.Awaiting.{awaits, awaits_answer};
 ghost use Rattle.lard_back.specs.Sound.{IsNodeSound};
 ghost use Rattle.lard_base.specs.declared.limits.TheConstants.{MAX_SEGMENT_BYTES, MAX_STREAM_BYTES};
-ghost use Rattle.lard_handoff_back.specs.Back.{awaits_ack, back_acknowledged};
-ghost use Rattle.lard_rules.specs.Node.{here, node_acknowledged, node_content, node_forwarded, node_read, node_tagged, node_saying};
+ghost use Rattle.lard_handoff_back.specs.Back.{back_acknowledged};
+ghost use Rattle.lard_rules.specs.Node.{here, node_acknowledged, node_content, node_forwarded, node_read, node_tagged, node_saying, told_kind};
 ghost use Rattle.lard_rules.specs.NodePlace.{NodeSetting, node_deed, node_env, node_part};
 ghost use Rattle.lard_segment.specs.Segment.{decoded};
 
@@ -149,48 +149,63 @@ pub fn completed(
     read(state, alloc, setting, at, was, r)
 }
 
-/// An EndedAck comes. The end is not told again where it is awaited in this epoch. Without memory the state is of no
-/// use any more but to be spent.
-pub fn acknowledged(state: &mut NodeState, alloc: Global, at: &At) -> Result<Out, NoMemory>
+/// An EndedAck comes, or a Given (`back`): where it is awaited in this epoch, what told that the stay is over is told no
+/// longer. Without memory the state is of no use any more but to be spent.
+pub fn acknowledged(
+    state: &mut NodeState,
+    alloc: Global,
+    at: &At,
+    back: bool,
+) -> Result<Out, NoMemory>
     requires sound { IsNodeSound state.old }
     requires few { length state.old.disk < 2 ^ 31 }
-    ensures ok { IfOk result (λ out. (k : NodeSetting) → k.n ≡ at.now.n → (state.new, out) ≡ node_deed k state.old at.now.c (node_acknowledged (node_env k state.old at.now.c at.now.epoch.0) (node_part state.old at.now.c))) }
+    ensures ok { IfOk result (λ out. (k : NodeSetting) → k.n ≡ at.now.n → (state.new, out) ≡ node_deed k state.old at.now.c (node_acknowledged (node_env k state.old at.now.c at.now.epoch.0) back (node_part state.old at.now.c))) }
     ensures sound { OnOk result (IsNodeSound state.new) }
     ensures fits { IfOk result IsNodeOut }
 {
     let was = running(state, at.c);
-    if !is_awaited(&mut state.conns, at) {
+    if !is_awaited(&mut state.conns, at, back) {
         return Ok(nothing(alloc));
     }
-    let kind = TimerKind::Ended;
+    let kind = told_kind(back);
     let _ = state.kept.settle(PendingKey {
         c: at.c,
         kind,
         r: 0,
     });
-    tell_turn(state, alloc, at, was, quiet(alloc))
+    tell_turn(state, alloc, at, was, saying(alloc, Sends::new(alloc)))
 }
 
-/// Whether an EndedAck is awaited in this epoch; it is no longer.
-#[tactic(auto, using(lard_handoff_back::proofs::Leaving::stays_awaits))]
-fn is_awaited(conns: &mut BackTable, at: &At) -> bool
-    requires { conns.old.leaving ≡ false }
-    ensures value { result ≡ awaits_ack at.now.epoch.0 (table.get conns.old.rows at.now.c) }
-    ensures after { conns.new ≡ record conns.old { rows = back_acknowledged conns.old.rows at.now.c (table.get conns.old.rows at.now.c) (awaits_ack at.now.epoch.0 (table.get conns.old.rows at.now.c)) } }
+/// Whether an EndedAck, or a Given, is awaited in this epoch; it is no longer.
+fn is_awaited(conns: &mut BackTable, at: &At, back: bool) -> bool
+    ensures value { result ≡ awaits_answer back at.now.epoch.0 conns.old at.now.c }
+    ensures after { conns.new ≡ record conns.old { rows = back_acknowledged conns.old.rows at.now.c (table.get conns.old.rows at.now.c) (awaits_answer back at.now.epoch.0 conns.old at.now.c) } }
 {
-    conns.law();
+    if back {
+        return conns.on_given(at.c, at.epoch);
+    }
     conns.on_ended_ack(at.c, at.epoch)
 }
 
-/// A turn in which nothing is noted, sent or queued.
-fn quiet(alloc: Global) -> NodeTurn
-    ensures { result ≡ node_saying [] }
+/// What tells that a stay is over: its Ended, or the Give of a connection that went back.
+fn told_kind(back: bool) -> TimerKind
+    ensures { result ≡ told_kind back }
+{
+    if back {
+        return TimerKind::Give;
+    }
+    TimerKind::Ended
+}
+
+/// A turn in which these messages go out, and nothing is noted or queued.
+pub fn saying(alloc: Global, messages: Sends) -> NodeTurn
+    ensures { result ≡ node_saying messages }
 {
     NodeTurn {
         notes: Recs::new(alloc),
         segments: Sends::new(alloc),
         gave: Recs::new(alloc),
-        messages: Sends::new(alloc),
+        messages,
         jobs: Items::new(alloc),
         answered: 0,
     }

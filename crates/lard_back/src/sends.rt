@@ -3,7 +3,7 @@
 ghost use Rattle.std.specs.Prelude.{◌≡◌, ◌++◌, [], ◌∷◌, ◌≤◌, length, map, IfOk, OnOk};
 ghost use Rattle.std.specs.FinMap as table;
 ghost use Rattle.lard_back.specs.Bounds.{AreMessages, AreWants, IsSpelledAsk, IsNodeOut};
-ghost use Rattle.lard_back.specs.Hand.{ask_sent, asked_in, ended_message, fetch_message, fetches_sent, wanted};
+ghost use Rattle.lard_back.specs.Hand.{ask_sent, asked_in, ended_message, fetch_message, fetches_sent, front_message, wanted};
 ghost use Rattle.lard_base.specs.declared.limits.TheConstants.{MAX_MESSAGE_BYTES};
 ghost use Rattle.lard_message.specs.Message.{IsCount, IsOfTable, IsPath};
 ghost use Rattle.lard_rules.specs.Node.{again_sent, reset_count, message};
@@ -58,7 +58,7 @@ fn tell_front(
 ) -> Result<(), NoMemory>
     requires fit { AreMessages messages.old }
     requires fits { length bytes ≤ MAX_MESSAGE_BYTES }
-    ensures kept { OnOk result (kept.new ≡ renewed kept.old at.now.c (record { kind = kind; r = 0; to = Place.Front; bytes = bytes })) }
+    ensures kept { OnOk result (kept.new ≡ renewed kept.old at.now.c (front_message kind bytes)) }
     ensures sends { OnOk result (messages.new ≡ messages.old ++ (Place.Front, bytes) ∷ []) }
     ensures fit { OnOk result (AreMessages messages.new) }
 {
@@ -144,8 +144,27 @@ fn want_one(
     send(messages, Place::Node(want.node), bytes)
 }
 
-/// The stay ended: nothing of the connection is awaited any longer but the answer to this. `NoMemory` where memory runs
-/// out; nothing is said of what is held and sent then.
+/// The stay is over: a message tells the front end so, and nothing of the connection is awaited any longer but the answer
+/// to it. `NoMemory` where memory runs out; nothing is said of what is held and sent then.
+pub fn tell_last(
+    kept: &mut Pending,
+    alloc: Global,
+    at: &At,
+    kind: TimerKind,
+    bytes: Bytes,
+    messages: &mut Sends,
+) -> Result<(), NoMemory>
+    requires fit { AreMessages messages.old }
+    requires fits { length bytes ≤ MAX_MESSAGE_BYTES }
+    ensures kept { OnOk result (kept.new ≡ renewed (table.remove kept.old at.now.c) at.now.c (front_message kind bytes)) }
+    ensures sends { OnOk result (messages.new ≡ messages.old ++ (Place.Front, bytes) ∷ []) }
+    ensures fit { OnOk result (AreMessages messages.new) }
+{
+    kept.forget(at.c);
+    tell_front(kept, alloc, at, kind, bytes, messages)
+}
+
+/// The stay ended, with these numbers. `NoMemory` where memory runs out; nothing is said of what is held and sent then.
 pub fn end(
     kept: &mut Pending,
     alloc: Global,
@@ -167,24 +186,40 @@ pub fn end(
         count: over.unwrap_or(0),
     };
     let bytes = message(alloc, at, body)?;
-    kept.forget(at.c);
-    tell_front(kept, alloc, at, TimerKind::Ended, bytes, messages)
+    tell_last(kept, alloc, at, TimerKind::Ended, bytes, messages)
 }
 
 // ---- what goes out beside a turn
 
-/// The answer to an Offer that was decided. `NoMemory` where memory runs out.
+/// The answer to an Offer that was taken. `NoMemory` where memory runs out.
 pub fn taken(alloc: Global, at: &At) -> Result<Sends, NoMemory>
     ensures sends { IfOk result (λ sends. sends ≡ (Place.Front, message at.now.c at.now.epoch.0 Body.Taken) ∷ []) }
     ensures fit { IfOk result AreMessages }
 {
+    answer(alloc, at, Body::Taken)
+}
+
+/// The answer to an Offer that is refused. `NoMemory` where memory runs out.
+pub fn refused(alloc: Global, at: &At) -> Result<Sends, NoMemory>
+    ensures sends { IfOk result (λ sends. sends ≡ (Place.Front, message at.now.c at.now.epoch.0 Body.Refused) ∷ []) }
+    ensures fit { IfOk result AreMessages }
+{
+    answer(alloc, at, Body::Refused)
+}
+
+/// A message goes to the front end, and is not held.
+fn answer(alloc: Global, at: &At, body: Body) -> Result<Sends, NoMemory>
+    requires { IsOfTable body }
+    ensures sends { IfOk result (λ sends. sends ≡ (Place.Front, message at.now.c at.now.epoch.0 body) ∷ []) }
+    ensures fit { IfOk result AreMessages }
+{
     let mut messages = Sends::new(alloc);
-    let bytes = message(alloc, at, Body::Taken)?;
+    let bytes = message(alloc, at, body)?;
     send(&mut messages, Place::Front, bytes)?;
     Ok(messages)
 }
 
-/// All that awaits an answer, once more: the Ask or the Ended of a connection, and then its Fetches, by number.
+/// All that awaits an answer, once more: the Ask, the Ended or the Give of a connection, and then its Fetches, by number.
 /// `NoMemory` where memory runs out.
 pub fn again(state: &NodeState, alloc: Global, c: ConnId) -> Result<Sends, NoMemory>
     ensures sends { IfOk result (λ sends. sends ≡ again_sent (node_part state.now c)) }

@@ -22,6 +22,7 @@ pub struct Flags {
     pub ask: bool,
     pub fetch: bool,
     pub ended: bool,
+    pub give: bool,
 }
 
 /// Which timers of a connection run.
@@ -33,6 +34,7 @@ pub fn running(state: &NodeState, c: ConnId) -> Flags
         ask: holds_kind(state.kept.of(c), TimerKind::Ask),
         fetch: holds_kind(state.fetches.of(c), TimerKind::Fetch),
         ended: holds_kind(state.kept.of(c), TimerKind::Ended),
+        give: holds_kind(state.kept.of(c), TimerKind::Give),
     }
 }
 
@@ -67,6 +69,7 @@ pub fn changes(alloc: Global, n: NodeId, c: ConnId, was: Flags, is: Flags) -> Re
     change(&mut recs, n, c, TimerKind::Ask, was.ask, is.ask)?;
     change(&mut recs, n, c, TimerKind::Fetch, was.fetch, is.fetch)?;
     change(&mut recs, n, c, TimerKind::Ended, was.ended, is.ended)?;
+    change(&mut recs, n, c, TimerKind::Give, was.give, is.give)?;
     Ok(recs)
 }
 

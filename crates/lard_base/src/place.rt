@@ -26,6 +26,7 @@ pub enum TimerKind {
     Ask,
     Fetch,
     Ended,
+    Give,
 }
 
 /// Where a response's content came from: the place's own answer, its cache, its disk, or another node.

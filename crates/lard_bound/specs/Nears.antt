@@ -138,9 +138,13 @@ abbrev pub NearRefused : ℕ → ℕ → ℕ → Post → Type 0
 NearRefused d k i (Declined n e) = (n ≡ k) × (e ≡ i) × (1 ≤ d)
 NearRefused d k i _ = ⊥
 
-abbrev pub NearGive : ℕ → ℕ → ℕ → Post → Type 0
-NearGive d k i (GaveBack told n e) = (n ≡ k) × (e ≡ i) × (1 ≤ d)
-NearGive d k i _ = ⊥
+abbrev pub NearReturn : ℕ → ℕ → ℕ → Post → Type 0
+NearReturn d k i (GaveBack told n e) = (n ≡ k) × (e ≡ i) × (1 ≤ d)
+NearReturn d k i _ = ⊥
+
+-- one that is still told has Given for its answer
+abbrev pub NearGive : Spot → ℕ → ℕ → ℕ → Type 0
+NearGive t d k i = NearReturn d k i t.post ⊎ ((t.telling k ≡ Some (i, true)) × (2 ≤ d))
 
 -- a segment that is forwarded to node k
 abbrev pub NearForward : Spot → ℕ → ℕ → ℕ → Result Said SegFault → Post → Type 0
@@ -163,7 +167,7 @@ IsWanted k i from r _ = ⊥
 -- an end of a stay
 abbrev pub NearEnding : Spot → ℕ → ℕ → ℕ → Post → Type 0
 NearEnding t d k i (Left told n e) = (e ≡ i) × (1 ≤ d)
-NearEnding t d k i (Ended last taken) = (t.telling k ≡ Some i) × (2 ≤ d)
+NearEnding t d k i (Ended last taken) = (t.telling k ≡ Some (i, false)) × (2 ≤ d)
 NearEnding t d k i _ = ⊥
 
 -- what the front end tells node k in epoch i
@@ -171,14 +175,15 @@ abbrev pub NearTold : Spot → ℕ → ℕ → ℕ → ℕ → Body → Type 0
 NearTold t c d k i (body.Offer parts) = NearOffer d k i t.post
 NearTold t c d k i (body.Forward segment) = NearForward t d k i (decoded segment c ToCluster) t.post
 NearTold t c d k i (body.Tag number nodes) = NearAsk 1 k i number (length nodes) t.post × (1 ≤ d)
-NearTold t c d k i body.EndedAck = (t.telling k ≡ Some i) × (1 ≤ d)
+NearTold t c d k i body.EndedAck = (t.telling k ≡ Some (i, false)) × (1 ≤ d)
+NearTold t c d k i body.Given = (t.telling k ≡ Some (i, true)) × (1 ≤ d)
 NearTold t c d k i _ = ⊥
 
 -- what node k tells the front end
 abbrev pub NearSaid : Spot → ℕ → ℕ → ℕ → Body → Type 0
 NearSaid t d k i body.Taken = NearTaken d i t.post
 NearSaid t d k i body.Refused = NearRefused d k i t.post
-NearSaid t d k i (body.Give parts) = NearGive d k i t.post
+NearSaid t d k i (body.Give parts) = NearGive t d k i
 NearSaid t d k i (body.Ask number queue size paths) = NearAsk 2 k i number (length paths) t.post × (2 ≤ d)
 NearSaid t d k i (body.Ended why snd rcv count) = NearEnding t d k i t.post
 NearSaid t d k i _ = ⊥

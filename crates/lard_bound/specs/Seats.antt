@@ -1,5 +1,5 @@
 -- Where a connection is, by what the front end and the nodes keep of it, as far as settling asks.
-use Rattle.std.specs.Prelude.{ℕ, ◌==◌, Bool, true, false, if◌then◌else◌, List, [], Option, Some, None}
+use Rattle.std.specs.Prelude.{ℕ, ◌==◌, Bool, true, false, if◌then◌else◌, List, [], Option, Some, None, is_some}
 use Rattle.lard_law_view.specs.Prelude.{BackConn, BackRow, ControlBlock, Final, FrontConn, FrontPart, FrontRow, Kept, NodePart, Part, Stay, front_rest}
 use Rattle.lard_handoff_back.specs.declared.row.BackConn.TheVariants as back
 use Rattle.lard_handoff_back.specs.Leaving.{is_this_epoch}
@@ -84,3 +84,11 @@ telling _ e = None
 abbrev pub tells_end : Option BackRow → Option ℕ
 tells_end None = None
 tells_end (Some row) = telling row.stage row.epoch.0
+
+-- the same, and whether it goes back
+abbrev pub telling_by : Option ℕ → Option ℕ → Option (ℕ × Bool)
+telling_by None served = None
+telling_by (Some e) served = Some (e, is_some served)
+
+abbrev pub tells_over : NodePart → Option (ℕ × Bool)
+tells_over p = telling_by (tells_end p.row) p.beside.returned

@@ -1,7 +1,7 @@
 -- What of a connection decides how much comes of a packet: it changes only where a unit goes.
 use Rattle.std.specs.Prelude.{ℕ, Bool, List, length, Option}
 use Rattle.lard_law_view.specs.Prelude.{ClientBlock, ControlBlock, FilesAt, Final, Kept, Part, Phase, Station, named_paths, rcv_nxt, symbols}
-use Rattle.lard_bound.specs.Seats.{Gone, Held, Here, Offered, Over, Refused, Returned, SeatNow, Staying, Unborn, Waiting, seat_of, tells_end}
+use Rattle.lard_bound.specs.Seats.{Gone, Held, Here, Offered, Over, Refused, Returned, SeatNow, Staying, Unborn, Waiting, seat_of, tells_over}
 use Rattle.lard_bound.specs.Units.{symbols_taken}
 use Rattle.lard_client.specs.declared.phase.Phase.TheVariants as phase
 
@@ -37,7 +37,7 @@ pub record Spot : Type 0 where
   pub una : ℕ  -- how many symbols of the client's it knows to be taken
   pub last : ℕ  -- how many it has
   pub post : Post
-  pub telling : ℕ → Option ℕ  -- in which epoch each node ended a stay whose end is not acknowledged
+  pub telling : ℕ → Option (ℕ × Bool)  -- in which epoch each node tells that a stay is over, and whether it goes back
 
 abbrev pub number_awaited : ControlBlock → Phase → ℕ
 number_awaited b phase.Open = 0
@@ -69,5 +69,5 @@ spot_of files p s = record {
   una = s.client.send.una;
   last = symbols s.client.send;
   post = post_of files s.client (seat_of p);
-  telling = λ n. tells_end (p.nodes n).row;
+  telling = λ n. tells_over (p.nodes n);
 }

@@ -1,6 +1,6 @@
 -- How much is left to do on a connection, in units: an upper bound, which no step makes greater.
-use Rattle.std.specs.Prelude.{ℕ, zero, suc, ◌+◌, ◌-◌, ◌*◌, ◌==◌, Bool, true, false, if◌then◌else◌, List, [], ◌∷◌, length, Option, Some, None, is_some}
-use Rattle.lard_law_view.specs.Prelude.{ClientBlock, Conn, ControlBlock, Entry, FilesAt, Machine, NodePart, Part, Phase, Progress, Station, answer_bytes, conn, verdicts}
+use Rattle.std.specs.Prelude.{ℕ, zero, suc, ◌+◌, ◌-◌, ◌*◌, ◌==◌, ◌&&◌, Bool, true, false, if◌then◌else◌, List, [], ◌∷◌, length, Option, Some, None, is_some}
+use Rattle.lard_law_view.specs.Prelude.{BackRow, ClientBlock, Conn, ControlBlock, Entry, Epoch, FilesAt, Machine, NodePart, Part, Phase, Progress, Station, answer_bytes, back_held, conn, verdicts}
 use Rattle.lard_base.specs.declared.ids.TheConstants.ConnId.{MAX}
 use Rattle.lard_client.specs.declared.phase.Phase.TheVariants.{Open, Aborted, Reset}
 use Rattle.lard_rules.specs.declared.stay.Progress.TheVariants.{Named, Reading, Awaited, Ready}
@@ -8,14 +8,16 @@ use Rattle.lard_bound.specs.Seats.{Gone, Held, Here, Offered, Over, Refused, Ret
 
 -- ---- all that there is to do
 
--- what a client wrote before a settle, which writes nothing more: its bytes, those of the responses, and the requests that are answered
+-- What a client wrote before a settle, which writes nothing more: its bytes, those of the responses, and the requests that are answered. And
+-- which nodes leave: within a settle none begins to.
 pub record Whole : Type 0 where
   pub written : ℕ
   pub answers : ℕ
   pub requests : ℕ
+  pub leaving : ℕ → Bool
 
-abbrev pub whole_of : FilesAt → List ℕ → Whole
-whole_of files wrote = record { written = length wrote; answers = length (answer_bytes files wrote); requests = length (verdicts wrote) }
+abbrev pub whole_of : FilesAt → (ℕ → Bool) → List ℕ → Whole
+whole_of files leaving wrote = record { written = length wrote; answers = length (answer_bytes files wrote); requests = length (verdicts wrote); leaving = leaving }
 
 abbrev pub one_if_not : Bool → ℕ
 one_if_not true = 0
@@ -86,10 +88,40 @@ seat_left k x (Returned told n e served) = 10 + one_if_not told
 seat_left k x (Gone told n e) = 1 + one_if_not told
 seat_left k x (Over last) = 0
 
--- how many of so many nodes tell the end of a stay that is not acknowledged
+-- a number of each of so many nodes, all together
+abbrev pub sum_of : (ℕ → NodePart → ℕ) → (ℕ → NodePart) → ℕ → ℕ
+sum_of f nodes zero = 0
+sum_of f nodes (suc n) = f (suc n) (nodes (suc n)) + sum_of f nodes n
+
+-- how many nodes tell that a stay is over, which is not acknowledged
+abbrev pub tells_of : ℕ → NodePart → ℕ
+tells_of n p = if is_some (tells_end p.row) then 1 else 0
+
 abbrev pub tellers : (ℕ → NodePart) → ℕ → ℕ
-tellers nodes zero = 0
-tellers nodes (suc n) = (if is_some (tells_end (nodes (suc n)).row) then 1 else 0) + tellers nodes n
+tellers nodes n = sum_of tells_of nodes n
+
+-- Nine for each node that leaves and may still send the connection back, since it did not decide about it, or has it.
+abbrev pub may_return_by : Option BackRow → Option Epoch → Bool
+may_return_by None None = true
+may_return_by None (Some epoch) = false
+may_return_by (Some row) refused = is_some (back_held row.stage)
+
+abbrev pub may_return : NodePart → Bool
+may_return p = may_return_by p.row p.beside.refused
+
+abbrev pub token_of : (ℕ → Bool) → ℕ → NodePart → ℕ
+token_of leaving n p = if leaving n && may_return p then 9 else 0
+
+abbrev pub tokens : (ℕ → Bool) → (ℕ → NodePart) → ℕ → ℕ
+tokens leaving nodes n = sum_of (token_of leaving) nodes n
+
+-- how many of so many nodes leave
+abbrev pub leavers : (ℕ → Bool) → ℕ → ℕ
+leavers leaving zero = 0
+leavers leaving (suc n) = (if leaving (suc n) then 1 else 0) + leavers leaving n
+
+abbrev pub nodes_left : Whole → (ℕ → NodePart) → ℕ → ℕ
+nodes_left k nodes n = tellers nodes n + tokens k.leaving nodes n
 
 -- ---- requests
 
@@ -123,7 +155,7 @@ requests_left k (Over last) = 0
 
 abbrev pub left_with : Whole → ℕ → Part → Station → ℕ
 left_with k nodes p s =
-    client_left k s.client + heard_left k s.client (seat_of p) + (seat_left k s.client (seat_of p) + tellers p.nodes nodes) + requests_left k (seat_of p)
+    client_left k s.client + heard_left k s.client (seat_of p) + (seat_left k s.client (seat_of p) + nodes_left k p.nodes nodes) + requests_left k (seat_of p)
 
 -- nothing is to be done on a connection whose client did not open
 abbrev pub left_to_client : Whole → ℕ → Part → Option Station → ℕ

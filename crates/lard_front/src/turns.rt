@@ -87,6 +87,7 @@ fn is_offer(kept: &Kept) -> bool
         TimerKind::Ask => false,
         TimerKind::Fetch => false,
         TimerKind::Ended => false,
+        TimerKind::Give => false,
     }
 }
 

@@ -7,7 +7,7 @@ use Rattle.lard_base.specs.declared.event.Event.TheVariants as event
 use Rattle.lard_base.specs.declared.place.Place.{Place}
 use Rattle.lard_base.specs.declared.place.Place.TheVariants.{Front, Node, Client}
 use Rattle.lard_base.specs.declared.place.TimerKind.{TimerKind}
-use Rattle.lard_base.specs.declared.place.TimerKind.TheVariants.{Tcp, Offer, Ask, Fetch, Ended}
+use Rattle.lard_base.specs.declared.place.TimerKind.TheVariants.{Tcp, Offer, Ask, Fetch, Ended, Give}
 use Rattle.lard_journal.specs.declared.rec.Rec.{Rec}
 use Rattle.lard_journal.specs.declared.rec.Rec.TheVariants as rec
 use Rattle.lard_request.specs.declared.verdict.Verdict.{Verdict}
@@ -238,6 +238,7 @@ is_kind Offer Offer = true
 is_kind Ask Ask = true
 is_kind Fetch Fetch = true
 is_kind Ended Ended = true
+is_kind Give Give = true
 is_kind _ _ = false
 
 abbrev pub armed_step : Place → ℕ → TimerKind → Bool → Rec → Bool

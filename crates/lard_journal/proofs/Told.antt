@@ -15,7 +15,7 @@ use Rattle.lard_base.specs.declared.event.Event.TheVariants as event
 use Rattle.lard_base.specs.declared.place.Place.{Place}
 use Rattle.lard_base.specs.declared.place.Place.TheVariants.{Front, Node, Client}
 use Rattle.lard_base.specs.declared.place.TimerKind.{TimerKind}
-use Rattle.lard_base.specs.declared.place.TimerKind.TheVariants.{Tcp, Offer, Ask, Fetch, Ended}
+use Rattle.lard_base.specs.declared.place.TimerKind.TheVariants.{Tcp, Offer, Ask, Fetch, Ended, Give}
 use Rattle.lard_base.specs.declared.place.Via.{Via}
 use Rattle.lard_base.specs.declared.place.Via.TheVariants as via
 use Rattle.lard_base.specs.Spelling.{place_word, event_words}
@@ -61,7 +61,7 @@ via_of (b ∷ word) = cond (b == 110) (via.Node (number_of (drop 3 word))) (cond
 -- the kind of a timer
 abbrev kind_of : List ℕ → TimerKind
 kind_of [] = Tcp
-kind_of (b ∷ _) = cond (b == 111) Offer (cond (b == 97) Ask (cond (b == 102) Fetch (cond (b == 101) Ended Tcp)))
+kind_of (b ∷ _) = cond (b == 111) Offer (cond (b == 97) Ask (cond (b == 102) Fetch (cond (b == 101) Ended (cond (b == 103) Give Tcp))))
 
 -- the words of an event
 abbrev event_of : List (List ℕ) → Event
@@ -158,6 +158,7 @@ kind_back Offer = refl
 kind_back Ask = refl
 kind_back Fetch = refl
 kind_back Ended = refl
+kind_back Give = refl
 
 -- an event is read back from its words
 event_back : (e : Event) → IsEventInRange e → event_of (event_words e) ≡ e
@@ -216,6 +217,7 @@ plain-kind Offer = refl
 plain-kind Ask = refl
 plain-kind Fetch = refl
 plain-kind Ended = refl
+plain-kind Give = refl
 
 -- the words of an event are plain
 plain-event : (e : Event) → IsEventInRange e → all_plain (event_words e) ≡ true

@@ -5,7 +5,7 @@ use Rattle.hex.specs.Hex.{encode_lower}
 use Rattle.lard_base.specs.declared.config.Config.{Config}
 use Rattle.lard_base.specs.declared.config.Key.TheVariants.{Nodes, Low, High, Age, Idle, Over, Miss, Cache, Stream}
 use Rattle.lard_base.specs.declared.place.TimerKind.{TimerKind}
-use Rattle.lard_base.specs.declared.place.TimerKind.TheVariants.{Tcp, Offer, Ask, Fetch, Ended}
+use Rattle.lard_base.specs.declared.place.TimerKind.TheVariants.{Tcp, Offer, Ask, Fetch, Ended, Give}
 use Rattle.lard_base.specs.declared.place.Via.{Via}
 use Rattle.lard_base.specs.declared.place.Via.TheVariants as via
 use Rattle.lard_base.specs.Spelling.{line_of, key_word, place_word, event_words}
@@ -35,6 +35,7 @@ kind_word Offer = codes "offer"
 kind_word Ask = codes "ask"
 kind_word Fetch = codes "fetch"
 kind_word Ended = codes "ended"
+kind_word Give = codes "give"
 
 -- the words of a record's line: in an assignment nodes are plain numbers, in hit, queued, read and closed they are places
 abbrev pub rec_words : Rec → List (List ℕ)

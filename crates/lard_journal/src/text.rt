@@ -109,6 +109,7 @@ pub fn kind(out: &mut Vec<u8>, kind: TimerKind) -> Result<(), NoMemory>
         TimerKind::Ask => word(out, b"ask"),
         TimerKind::Fetch => word(out, b"fetch"),
         TimerKind::Ended => word(out, b"ended"),
+        TimerKind::Give => word(out, b"give"),
     }
 }
 

@@ -2,13 +2,13 @@
 use Rattle.std.proofs.Common.{◌≡◌, ◌≤◌, ◌<◌, ◌+◌, ◌-◌, nat_lt, ℕ, true, List, [], length, Option, Some, None, refl, sym, subst, arith}
 use Rattle.std.proofs.lemmas.Bool.{cond_both, ltb-false, ltb-true}
 use Rattle.std.specs.List.{find}
-use Rattle.lard_law_view.specs.Prelude.{BackRow, Conn, ControlBlock, Ending, FilesAt, NodeDeed, NodeEnv, NodeGets, NodePart, Place, Seen, ServeEnv, Service, Stay, Work, after_timer, asked_kept, came_for, come_on, come_progress, goes_on, gone, grown, is_from, is_under, kept_after, named_paths, node_begins, node_does, node_rule, on_segment, read_progress, reads_batch, serving, serving_ready_of, serving_settled, spoken, state_of, tagged, taken_sent, timed, wants_kept, with_work, without, work_of}
+use Rattle.lard_law_view.specs.Prelude.{BackRow, Conn, ControlBlock, Ending, FilesAt, NodeDeed, NodeEnv, NodeGets, NodePart, Place, Seen, ServeEnv, Service, Stay, Work, after_timer, asked_kept, came_for, come_on, come_progress, goes_on, gone, grown, is_from, is_under, kept_after, named_paths, node_begins, node_does, node_rule, on_segment, read_progress, reads_batch, serving, serving_ready_of, serving_settled, spoken, state_of, tagged, taken_sent, timed, told_kind, wants_kept, with_work, without, work_of}
 use Rattle.lard_base.specs.declared.place.TimerKind.TheVariants as timer
 use Rattle.lard_law_connections.specs.Awaits.{AwaitsWhatItAsked, BatchComes, NodeComes, RowComes}
 use Rattle.lard_law_connections.proofs.AwaitsBatches.{batch-came, batch-later, batch-read}
 use Rattle.lard_law_connections.proofs.AwaitsStays.{Comes, all-started, batch-state, goes-comes, starts-come}
 use Rattle.lard_law_view.proofs.Parts.{put-each}
-use Rattle.lard_rules.proofs.NodeCases.{IsHereWith, IsInItsEpoch, KeptByNode, node-keeps, of-here}
+use Rattle.lard_rules.proofs.NodeCases.{IsHereWith, IsOfItsEpoch, KeptByNode, Turned, node-keeps, of-here}
 use Rattle.lard_rules.specs.Node.{Drops, Says, Does}
 use Rattle.lard_rules.specs.declared.places.Ending.TheVariants as ending
 use Rattle.lard_rules.proofs.Endings.{StaysWith, settled-stays, spoken-stays}
@@ -42,6 +42,9 @@ module _ (env : NodeEnv) where
 
   goes-come : (part : NodePart) (before : List (Place × List ℕ)) (k : Work) → Comes env part.kept part.fetches k → DeedComes (with_work env part before (goes_on env k))
   goes-come part before k h = after-comes part (goes_on env k) (serving_settled env.serve (goes_on env k).service).0 (settled-served env.serve (goes_on env k).service) (goes-comes env part.kept part.fetches k h)
+
+  goes-turned : (part : NodePart) (k : Work) → Comes env part.kept part.fetches k → Turned DeedComes env part [] (goes_on env k)
+  goes-turned part k h = (λ rests. goes-come part [] k h, λ back. tt)
 
   module _ (p : NodePart) (h : NodeComes files p) where
     -- what the stay that is here awaits was asked for
@@ -81,24 +84,26 @@ module _ (env : NodeEnv) where
     rules_come : KeptByNode env p (λ g. Unit {0}) DeedComes
     rules_come = record {
       drops = tt;
-      hears = λ said b s m at. goes-come p [] (work_of (on_segment b said).1 s) (come b s at);
-      tags = λ number nodes b s m at asked same count. goes-come (record p { kept = without timer.Ask 0 p.kept }) [] (tagged env nodes (work_of b s))
+      hears = λ said b s m at. goes-turned p (work_of (on_segment b said).1 s) (come b s at);
+      tags = λ number nodes b s m at asked same count. goes-turned (record p { kept = without timer.Ask 0 p.kept }) (tagged env nodes (work_of b s))
           (tagged-comes nodes b s count (come b s at));
-      comes = λ from r b s m at wanted. goes-come (record p { fetches = without timer.Fetch r p.fetches }) [] (came_for (come_progress from) r (work_of b s))
+      comes = λ from r b s m at wanted. goes-turned (record p { fetches = without timer.Fetch r p.fetches }) (came_for (come_progress from) r (work_of b s))
           (content-comes from r b s wanted (come b s at));
-      reads = λ r path b s m at. goes-come p [] (came_for read_progress r (work_of b s)) (read-comes r b s (come b s at));
-      begins = λ parts m new. goes-come p (taken_sent env) (state_of (reads_batch env true (node_begins env parts)))
+      reads = λ r path b s m at. goes-turned p (came_for read_progress r (work_of b s)) (read-comes r b s (come b s at));
+      begins = λ parts m new may. goes-come p (taken_sent env) (state_of (reads_batch env true (node_begins env parts)))
           (batch-state env p.kept p.fetches true (node_begins env parts) refl);
       takes_again = λ parts m again. tt;
+      refuses = λ parts m is. h;
       fires = λ b s m at.
           let before : List (Place × List ℕ) = serving_ready_of env.serve (after_timer b) (timed b) in
           let w : Service = serving (after_timer b) s.served [] in
           after-comes p (work_of (after_timer b) s) (spoken env.serve w before).0 (spoken-served env.serve w before) (come b s at);
       resends = λ m none. tt;
-      ends = λ m told. gone-comes (record p { row = gone p.row; kept = without timer.Ended 0 p.kept }) p.row;
+      ends = λ back m told was. gone-comes (record p { row = gone p.row; kept = without (told_kind back) 0 p.kept }) p.row;
+      leaves = λ b s m at back. tt;
     }
 
-    pub rule-comes : (g : NodeGets) → IsInItsEpoch env p g → DeedComes (node_rule env p g)
+    pub rule-comes : (g : NodeGets) → IsOfItsEpoch env p g → DeedComes (node_rule env p g)
     rule-comes g at = node-keeps env p (λ g. Unit {0}) DeedComes rules_come g at tt
 
 -- ---- its move

@@ -41,7 +41,7 @@ module _ (k : Setting) where
   nodes : NodeRules k Awaits
   nodes = each-node k Awaits (record {
     does = λ x n epoch env heads g is at comes may h. by-node x n epoch env is heads (node_rule env (x.part.nodes n) g)
-        (λ awaits. rule-comes env (x.part.nodes n) awaits g at) h;
+        (λ awaits. rule-comes env (x.part.nodes n) awaits g at.0) h;
     aside = λ x n a may rest h. h;
   })
 

@@ -73,6 +73,7 @@ module _ (env : NodeEnv) (kept0 fetches0 : List Kept) where
     reads = λ w none may h. batch-comes false w none;
     serves = λ way e rest w may first is h. served-comes way e rest w (subst (BatchComes files (kept_then w) (fetches_then w) (w.service.count + 1)) first h);
     stops = λ w may h. h;
+    holds = λ w leaves none may h. h;
   }) k h
 
   -- ---- a Tag comes: no request is without a node any more

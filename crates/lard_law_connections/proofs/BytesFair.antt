@@ -18,8 +18,8 @@ told-kept p n e bytes row found now not told = ⊎_elim (λ (d : IsDecided e (p.
     (λ (past : HasEnded e p.front.row). let less : HasEnded e (Some row) = subst (HasEnded e) found past in absurd (omega (arith, less, now)))
     (λ (kept : IsKept p.front.kept bytes). kept) other) told
 
--- How a step leaves what packets speak of: an Offer that is told on is the same, and so is the end that a node tells, until the
--- front end knows it.
+-- How a step leaves what packets speak of: an Offer that is told on is the same, and so is the end or the Give that a node tells, until
+-- the front end knows it.
 pub record GoesOnFairly (k l : Talk) (p q : Part) : Type 0 where
   pub talk : TalksOn k l
   pub grows : Grows p q
@@ -68,6 +68,7 @@ module _ (k l : Talk) (c : ℕ) (p q : Part) (on : GoesOnFairly k l p q) where
 
   node-on : (n e : ℕ) (bytes : List ℕ) (b : Body) → NodeSaid p n e (kind_of b) → NodeTells p n e bytes b → NodeTells q n e bytes b
   node-on n e bytes (body.Ended reason snd rcv count) said told = end-on n e bytes said told
+  node-on n e bytes (body.Give parts) said told = end-on n e bytes said.0 told
   node-on n e bytes _ said told = tt
 
   fair-on : (from to : Place) (bytes : List ℕ) → MaySay p from to (message_head bytes) → IsFairOn k c p from to bytes → IsFairOn l c q from to bytes

@@ -1,8 +1,8 @@
 -- An Ask and the end of a connection at its node leave it in agreement.
-use Rattle.std.proofs.Common.{◌≡◌, ◌≤◌, ◌+◌, ◌==◌, ◌^◌, ℕ, Bool, false, true, List, [], ◌∷◌, ◌++◌, map, Option, Some, None, Ok, arith, refl, ap, ◌∙◌, sym, subst, inl, ⊎_elim, eqb-true, eq-eqb}
+use Rattle.std.proofs.Common.{◌≡◌, ◌≤◌, ◌+◌, ◌==◌, ◌^◌, ℕ, Bool, false, true, List, [], ◌∷◌, ◌++◌, map, Option, Some, None, arith, refl, ◌∙◌, sym, subst, inl, ⊎_elim, eqb-true, eq-eqb}
 use Rattle.std.specs.List.{fold, list_any}
-use Rattle.lard_law_view.specs.Prelude.{Ask, BackConn, BackRow, Conn, EndpointParts, Final, Front, FrontConn, FrontDeed, FrontEnv, FrontGets, FrontPart, FrontRest, FrontRow, FrontRules, IsConnNumber, IsFrontEnv, Kept, LaterChoice, Message, Node, NodePart, Reason, Rec, Seen, Setting, SpellsMessage, Station, Stream, Talk, Verdict, Was, ack_sent, assigned_notes, assigns, bytes_served_in, decoded_message, ended_kept, front_does, front_ended_by, front_rest, front_rule, front_saying, given_sent, is_away, is_reset_record, is_row_at, is_with, next_epoch, over_note, seen_step, served_in, serving, tag_sent, tale_at, tale_step, with_front}
-use Rattle.lard_law_connections.specs.BytesAgreement.{AwayAgrees, BackAgrees, EndedWithNumbers, IsEnding, IsFair, IsKept, IsOpen, IsTruthful, NodeAgrees, NodeTells, RowAgrees, SeatAgrees, StageAgrees}
+use Rattle.lard_law_view.specs.Prelude.{Ask, Conn, EndpointParts, Final, Front, FrontConn, FrontDeed, FrontEnv, FrontGets, FrontPart, FrontRest, FrontRow, FrontRules, IsConnNumber, IsFrontEnv, LaterChoice, Node, NodePart, Reason, Rec, Seen, Setting, SpellsMessage, Station, Talk, Verdict, Was, ack_sent, assigned_notes, assigns, bytes_served_in, front_does, front_ended_by, front_rest, front_rule, front_saying, given_sent, is_away, is_reset_record, is_row_at, is_with, next_epoch, over_note, seen_step, served_in, serving, tag_sent, tale_at, tale_step, with_front}
+use Rattle.lard_law_connections.specs.BytesAgreement.{AwayAgrees, EndedWithNumbers, IsFair, IsKept, IsOpen, IsTruthful, NodeAgrees, NodeTells, SeatAgrees, StageAgrees}
 use Rattle.lard_law_connections.specs.BytesKeeping.{FrontSays, IsFrontTalk}
 use Rattle.lard_law_connections.proofs.BytesLaw.{Helps, IsTrueMove, StaysTruthful}
 use Rattle.lard_law_connections.specs.BytesTurning.{IsNoteOf}
@@ -10,17 +10,16 @@ use Rattle.lard_law_connections.proofs.BytesClientMoves.{has-fair, open-at}
 use Rattle.lard_law_connections.proofs.BytesFrontMessages.{past-undecided, taken-moves, where-opened}
 use Rattle.lard_law_connections.proofs.BytesFrontMoves.{GoesSo, all-say, at-home, by-segment, by-timer, drops-goes, heard-word, rule-agrees, says-goes, talk-of}
 use Rattle.lard_law_connections.proofs.BytesFronts.{CameBack}
-use Rattle.lard_law_connections.proofs.BytesMessages.{ends-read}
 use Rattle.lard_law_connections.proofs.BytesMoves.{idle-goes, move-goes}
+use Rattle.lard_law_connections.proofs.BytesOver.{over-tells, told-end}
 use Rattle.lard_law_connections.proofs.BytesReturns.{by-return}
 use Rattle.lard_law_connections.proofs.BytesTold.{bytes_of}
-use Rattle.lard_law_connections.specs.Places.{HasEnded, IsDecided, IsLeft, Owning, IsOver, IsPast, IsThere, OthersArePast, Sits, StageSits, owning}
-use Rattle.lard_law_connections.proofs.PlacesFrontMessages.{came-says}
+use Rattle.lard_law_connections.specs.Places.{HasEnded, IsDecided, IsOver, IsPast, IsThere, OthersArePast, Sits, StageSits, owning}
+use Rattle.lard_law_connections.proofs.PlacesFrontMessages.{came-says, over-decided}
 use Rattle.lard_law_connections.proofs.PlacesFrontRules.{decided-there, there-decided}
 use Rattle.lard_law_connections.proofs.PlacesTurns.{IsPlaced}
 use Rattle.lard_law_view.proofs.Rows.{tale_before}
-use Rattle.lard_rules.specs.Front.{Does, Drops, Says, message}
-use Rattle.lard_handoff_back.specs.declared.row.BackConn.TheVariants as back
+use Rattle.lard_rules.specs.Front.{Does, Drops, Says}
 use Rattle.lard_handoff_front.specs.declared.row.FrontConn.TheVariants as stage
 use Rattle.lard_handoff_front.specs.declared.table.OnEnded.TheVariants.{New}
 use Rattle.lard_history.proofs.Each.{Each}
@@ -44,37 +43,6 @@ assigned-mute c ask r (path ∷ paths) (choice ∷ choices) = let h = assigned-m
 over-mute : (c : ℕ) (b : Bool) (rs : List Rec) → Mute c rs → Mute c (over_note c b ++ rs)
 over-mute c true rs h = record { each = (tt, h.each); served = h.served; size = h.size; reset = h.reset }
 over-mute c false rs h = h
-
--- ---- the end that a node tells
-
-over-decided : (e : ℕ) (o : Option BackRow) → IsOver e o → IsDecided e o
-over-decided e None h = h
-over-decided e (Some row) h = h.0
-
--- where the node has it in this epoch, and its stay is over, it is what the node keeps
-ending-of : (w out : Stream) (vs pend : List Verdict) (r : Bool) (c e n : ℕ) (own : Owning) (p : NodePart) → IsThere n e own p.row → IsOver e p.row → NodeAgrees w out vs pend r c p → (f : ℕ) × IsEnding w r c f p.kept
-ending-of w out vs pend r c e n own p is over agrees = go p.row is over agrees where
-  at-stage : (f : ℕ) (d : BackConn) → IsLeft d → BackAgrees w out vs pend r c f p d → (f : ℕ) × IsEnding w r c f p.kept
-  at-stage f (back.Here b) left h = absurd left
-  at-stage f back.Out left h = absurd h
-  at-stage f back.Ended left h = (f, h)
-  at-stage f back.Gone left h = absurd h
-
-  go : (o : Option BackRow) → IsThere n e own o → IsOver e o → RowAgrees w out vs pend r c p o → (f : ℕ) × IsEnding w r c f p.kept
-  go None is over h = absurd is
-  go (Some row) is over h = at-stage row.epoch.0 row.stage (over.1 is.0) h
-
--- so the message that tells it says how it ended
-told-end : (w : Stream) (r : Bool) (c f : ℕ) (kept : List Kept) (bytes : List ℕ) → IsEnding w r c f kept → IsKept kept bytes → (m : Message) (why : Reason) (snd rcv count : ℕ) → decoded_message bytes ≡ Ok m → m.body ≡ body.Ended why snd rcv count
-    → EndedWithNumbers w r (record { reason = why; snd = record { 0 = snd }; rcv = record { 0 = rcv } })
-told-end w r c f kept bytes h k m why snd rcv count d is =
-    let same : ended_kept c f h.last h.count ∷ [] ≡ k.0 ∷ [] = sym h.kept_is ∙ k.1 in
-    let one : ended_kept c f h.last h.count ≡ k.0 = ap (first (ended_kept c f h.last h.count)) same in
-    let spelled : message c f (body.Ended h.last.reason h.last.snd.0 h.last.rcv.0 h.count) ≡ bytes = ap (λ (q : Kept). q.bytes) one ∙ k.2 in
-    ends-read c f w r h.last h.count h.ended m why snd rcv count (ap decoded_message spelled ∙ d) is where
-      first : Kept → List Kept → Kept
-      first q [] = q
-      first q (y ∷ ys) = y
 
 module _ (k : Setting) (small : k.stream ≤ 2 ^ 30) (x : Conn) (s : Station) (there : x.part.station ≡ Some s) (l : Talk) (pend : List Verdict) (o : IsOpen k.files x l pend s) (heads : List Seen)
     (quiet : (d : FrontDeed) → bytes_of (tale_before x (front_does x heads d)) ≡ bytes_of (tale_at x)) (env : FrontEnv) (is : IsFrontEnv k x.c env) where
@@ -158,9 +126,9 @@ module _ (k : Setting) (small : k.stream ≤ 2 ^ 30) (x : Conn) (s : Station) (t
       go : (b : Bool) → (m == n) ≡ b → EndedWithNumbers l.w l.was_reset last
       go true e =
           let eq : n ≡ m = sym (eqb-true m n e) in
-          let end = ending-of l.w l.out l.vs pend l.was_reset x.c row.epoch.0 m (owning (tale_at x)) here
+          let tells = over-tells l.w l.out l.vs pend l.was_reset x.c row.epoch.0 here m (owning (tale_at x))
           (subst (λ (i : ℕ). IsThere i row.epoch.0 (owning (tale_at x)) (x.part.nodes i).row) eq is) mine (subst (λ (i : ℕ). NodeAgrees l.w l.out l.vs pend l.was_reset x.c (x.part.nodes i)) eq agrees) in
-          told-end l.w l.was_reset x.c end.0 here.kept bytes end.1 unknown _ why snd rcv count spells refl
+          told-end l.w l.out l.vs pend l.was_reset x.c row.epoch.0 here bytes tells unknown _ why snd rcv count spells refl
       go false e = absurd (past-undecided row.epoch.0 here.row (others m (λ eq. let no : true ≡ false = sym (eq-eqb m n eq) ∙ e in cc)) (over-decided row.epoch.0 here.row mine))
 
     -- where it is away, at which node and in this epoch

@@ -130,14 +130,24 @@ module _ (k : Setting) (small : k.stream ≤ 2 ^ 30) (x : Conn) (s : Station) (t
   OffersStill n e (Does did) = IsOffered n e x.part.front.row × IsOffered n e did.part.row
   OffersStill n e _ = ⊥
 
+  -- what is kept anew is of this epoch, or of a later one
+  abbrev pub IsKeptFrom : ℕ → FrontDeed → Type 0
+  IsKeptFrom i (Does did) = IsFrom i did.part.row
+  IsKeptFrom i _ = Unit {0}
+
+  kept-from : (heads : List Seen) (d : FrontDeed) → Helps x (front_does x heads d) → IsKeptFrom (front_epoch x.part.front.row) d
+  kept-from heads Drops help = tt
+  kept-from heads (Says turn) help = tt
+  kept-from heads (Does did) help = grows-from x.part.nodes x.part.front.row did.part.row help.owes.grows.front
+
   unoffered : RowIsOurs x.part.front.row → (d : FrontDeed) (n e : ℕ) → OffersStill n e d → ⊥
   unoffered mine (Does did) n e still = ours-unoffered x.part.front.row mine n e still.0
   unoffered mine _ n e still = still
 
   does-goes : (heads : List Seen) (did : Did) → bytes_of (tale_before x (front_does x heads (Does did))) ≡ bytes_of (tale_at x)
-      → ((n e : ℕ) → OffersStill n e (Does did) → ⊥) → ArePast (front_epoch x.part.front.row) x.part.nodes
+      → ((n e : ℕ) → OffersStill n e (Does did) → ⊥) → (i : ℕ) → IsFrom i did.part.row → ArePast i x.part.nodes
       → FrontTurned k.files x.c l.w l.out l.vs l.was_reset did.part did.turn → Helps x (front_does x heads (Does did)) → IsTrueMove k.files x (front_does x heads (Does did))
-  does-goes heads did quiet anew past t help =
+  does-goes heads did quiet anew i from past t help =
       let v : Move = front_does x heads (Does did) in
       let r : Bool = l.was_reset || list_any is_reset_record did.turn.notes in
       let after : Talk = talk_after k.files x s there l pend o v t.out_after t.vs_after in
@@ -149,7 +159,7 @@ module _ (k : Setting) (small : k.stream ≤ 2 ^ 30) (x : Conn) (s : Station) (t
         pend_after = [];
         longer = t.longer;
         says = t.says;
-        seat = front-seat l.w t.out_after t.vs_after [] r x.c v.part (front_epoch x.part.front.row) did.part.row (grows-from v.part.nodes x.part.front.row did.part.row help.owes.grows.front) past t.agrees;
+        seat = front-seat l.w t.out_after t.vs_after [] r x.c v.part i did.part.row from past t.agrees;
         ways = o.ways;
         noted = t.noted;
         sent = t.sent;
@@ -162,12 +172,18 @@ module _ (k : Setting) (small : k.stream ≤ 2 ^ 30) (x : Conn) (s : Station) (t
       (record { heads = quiet; station = refl; offers = λ n e a b. refl; ends = λ n e over. inl refl })
       (idle-goes k.files x s there l pend o (front_does x heads Drops) (record { each = tt; served = refl; size = refl; reset = refl; seat = o.seat; ways = o.ways; sent = tt; letters = tt }))
 
+  -- where each stay was of an earlier epoch than what is kept anew
+  pub deed-from : (heads : List Seen) (d : FrontDeed) → IsQuiet heads → ((n e : ℕ) → OffersStill n e d → ⊥)
+      → (i : ℕ) → IsKeptFrom i d → ArePast i x.part.nodes → MessagesFair d
+      → FrontDeedKeeps k.files x.c l.w l.out l.vs l.was_reset d → Helps x (front_does x heads d) → IsTrueMove k.files x (front_does x heads d)
+  deed-from heads Drops quiet anew i from past fair t help = drops-goes heads (quiet Drops) help
+  deed-from heads (Says turn) quiet anew i from past fair t help = says-goes heads turn (quiet (Says turn)) t.0 t.1 fair help
+  deed-from heads (Does did) quiet anew i from past fair t help = does-goes heads did (quiet (Does did)) anew i from past t help
+
   pub deed-goes : (heads : List Seen) (d : FrontDeed) → IsQuiet heads → ((n e : ℕ) → OffersStill n e d → ⊥)
       → ArePast (front_epoch x.part.front.row) x.part.nodes → MessagesFair d
       → FrontDeedKeeps k.files x.c l.w l.out l.vs l.was_reset d → Helps x (front_does x heads d) → IsTrueMove k.files x (front_does x heads d)
-  deed-goes heads Drops quiet anew past fair t help = drops-goes heads (quiet Drops) help
-  deed-goes heads (Says turn) quiet anew past fair t help = says-goes heads turn (quiet (Says turn)) t.0 t.1 fair help
-  deed-goes heads (Does did) quiet anew past fair t help = does-goes heads did (quiet (Does did)) anew past t help
+  deed-goes heads d quiet anew past fair t help = deed-from heads d quiet anew (front_epoch x.part.front.row) (kept-from heads d help) past fair t help
 
 -- ---- a segment, and the timers
 

@@ -1,7 +1,7 @@
 -- What a place keeps stays in agreement where the client writes on.
 use Rattle.std.proofs.Common.{◌≡◌, ◌≤◌, ◌-◌, ℕ, Bool, List, [], ◌++◌, length, take, Option, Some, None, arith, ap, ◌∙◌, sym, subst, append_assoc, inl, inr, ⊎_elim}
 use Rattle.lard_law_view.specs.Prelude.{BackConn, BackRow, ControlBlock, Final, FrontConn, FrontRow, GoesOn, Hears, IsPrefix, Kept, NodePart, Part, Stay, Stream, Verdict, blocks, seq_add, verdicts, verdicts_on}
-use Rattle.lard_law_connections.specs.BytesAgreement.{AwayAgrees, BackAgrees, EndedWithNumbers, FrontHolds, HasReadPending, HoldsItPending, IsEnding, IsOffering, NodeAgrees, RowAgrees, SeatAgrees, StageAgrees, StayAgrees}
+use Rattle.lard_law_connections.specs.BytesAgreement.{AwayAgrees, BackAgrees, EndedWithNumbers, FrontHolds, HasReadPending, HoldsItPending, IsEnding, IsOffering, IsReturning, NodeAgrees, RowAgrees, SeatAgrees, StageAgrees, StayAgrees}
 use Rattle.lard_law_connections.specs.BytesKeeping.{SaidStays, SeatStays}
 use Rattle.lard_handoff_back.specs.declared.row.BackConn.TheVariants as back
 use Rattle.lard_handoff_front.specs.declared.row.FrontConn.TheVariants as stage
@@ -64,10 +64,13 @@ module _ (w v : Stream) (g : GoesOn w v) where
     ending-on : (e : ℕ) (kept : List Kept) → IsEnding w r c e kept → IsEnding v r c e kept
     ending-on e kept h = record { last = h.last; count = h.count; ended = ended-on r h.last h.ended; kept_is = h.kept_is }
 
+    returning-on : (e : ℕ) (p : NodePart) → IsReturning w out vs pend c e p → IsReturning v out vs pend c e p
+    returning-on e p h = record { block = h.block; count = h.count; frozen = h.frozen; holds = front-on h.block h.count h.holds; returned = h.returned; kept_is = h.kept_is }
+
     back-on : (e : ℕ) (p : NodePart) (d : BackConn) → BackAgrees w out vs pend r c e p d → BackAgrees v out vs pend r c e p d
     back-on e p (back.Here b) h = stay-on b p.stay h
     back-on e p back.Out h = h
-    back-on e p back.Ended h = ending-on e p.kept h
+    back-on e p back.Ended h = ⊎_elim (λ (t : IsEnding w r c e p.kept). inl (ending-on e p.kept t)) (λ (t : IsReturning w out vs pend c e p). inr (returning-on e p t)) h
     back-on e p back.Gone h = h
 
     node-on : (p : NodePart) (o : Option BackRow) → RowAgrees w out vs pend r c p o → RowAgrees v out vs pend r c p o

@@ -1,44 +1,69 @@
--- What is read of a message between places is what was said: of an Offer, a Forward and an Ended.
-use Rattle.std.proofs.Common.{◌≡◌, ◌≤◌, ◌<◌, ◌-◌, ◌^◌, ℕ, List, [], ◌∷◌, ◌++◌, length, Some, None, Result, Ok, Err, arith, refl, ap, ◌∙◌, sym, subst}
+-- What is read of a message between places is what was said: of an Offer, a Give, a Forward and an Ended.
+use Rattle.std.proofs.Common.{◌≡◌, ◌≤◌, ◌<◌, ◌-◌, ◌^◌, ℕ, true, List, [], ◌∷◌, ◌++◌, length, Some, None, Result, Ok, Err, arith, refl, ap, ◌∙◌, sym, subst}
 use Rattle.std.specs.Int.{to_be_bytes, w32}
-use Rattle.lard_law_view.specs.Prelude.{Body, EndpointParts, IsConnNumber, IsMessage, IsStream, Kept, Message, MsgFault, Reason, Stream, Verdict, body_bytes, decoded_message, ended_body_at, number_at, parts_in, parts_kept, parts_of, parts_read, reason_at, reason_byte}
-use Rattle.lard_law_connections.specs.BytesAgreement.{EndedWithNumbers, IsOffering}
-use Rattle.lard_law_connections.specs.BytesKeeping.{EndsAreRead, ForwardsAreRead, OffersAreRead}
+use Rattle.lard_law_view.specs.Prelude.{Body, ControlBlock, EndpointParts, IsConnNumber, IsMessage, IsStream, IsValidParts, Kept, Message, MsgFault, Reason, Stream, Verdict, body_bytes, decoded_message, ended_body_at, may_freeze, number_at, parts_in, parts_kept, parts_of, parts_read, reason_at, reason_byte}
+use Rattle.lard_law_connections.specs.BytesAgreement.{EndedWithNumbers, FrontHolds, IsOffering}
+use Rattle.lard_law_connections.specs.BytesKeeping.{EndsAreRead, ForwardsAreRead, GivesAreRead, OffersAreRead}
 use Rattle.lard_law_connections.proofs.PlacesHeads.{spelled-body}
 use Rattle.lard_endpoint.proofs.Adoption.{parts-valid}
+use Rattle.lard_message.specs.Message.{FitParts}
 use Rattle.lard_message.specs.declared.message.Body.TheVariants as body
 use Rattle.lard_rules.specs.Front.{message}
 use Rattle.lard_message.proofs.Fields.{bind_then, number_again, reason_again, some_same, wide32}
 use Rattle.lard_message.proofs.Whole.{again}
 
--- ---- an Offer
+-- ---- an Offer, a Give
 
 offer_parts : EndpointParts → Body → EndpointParts
 offer_parts p (body.Offer q) = q
 offer_parts p _ = p
 
+give_parts : EndpointParts → Body → EndpointParts
+give_parts p (body.Give q) = q
+give_parts p _ = p
+
 ok-same : (x m : Message) → (let given : Result Message MsgFault = Ok x in given ≡ Ok m) → x ≡ m
 ok-same x m e = cc
+
+-- the parts of an endpoint that was frozen are those that a message has room for
+module _ (w out : Stream) (vs pend : List Verdict) (b : ControlBlock) (count : ℕ) (is : IsStream w) (h : FrontHolds w out vs pend b count) (frozen : may_freeze b ≡ true) where
+  valid : IsValidParts (parts_of b count)
+  valid = let serves = h.serves in
+      let asked : count ≤ b.recv.got - length b.recv.unread = omega (arith, serves.asked) in
+      parts-valid b count h.holds.sound frozen asked
+
+  fit : FitParts (parts_of b count)
+  fit = (subst (λ (n : ℕ). n < 2 ^ 32) (sym h.holds.hears.first) is.number, h.holds.speaks.number, h.holds.wide.wnd, h.holds.wide.wl1, h.holds.wide.wl2)
 
 pub offers-read : OffersAreRead
 unfolding offer_parts
 offers-read c e w out vs pend b count number small is h frozen m parts decodes offer =
-    let held = h.holds in
-    let serves = h.serves in
-    let asked : count ≤ b.recv.got - length b.recv.unread = omega (arith, serves.asked) in
-    let irs : b.recv.irs < 2 ^ 32 = subst (λ (n : ℕ). n < 2 ^ 32) (sym held.hears.first) is.number in
     let x : Message = record { c = c; epoch = record { 0 = e }; body = body.Offer (parts_of b count) } in
     let good : IsMessage x = record {
       some_connection = number.0;
       connection = number.1;
       epoch = small;
-      table = parts-valid b count held.sound frozen asked;
-      fits = (irs, held.speaks.number, held.wide.wnd, held.wide.wl1, held.wide.wl2);
+      table = valid w out vs pend b count is h frozen;
+      fits = fit w out vs pend b count is h frozen;
     } in
     let same : (let given : Result Message MsgFault = Ok x in given ≡ Ok m) = sym (again x good) ∙ decodes in
-    let one : x ≡ m = ok-same x m same in
-    let bodies : body.Offer (parts_of b count) ≡ body.Offer parts = ap (λ (y : Message). y.body) one ∙ offer in
+    let bodies : body.Offer (parts_of b count) ≡ body.Offer parts = ap (λ (y : Message). y.body) (ok-same x m same) ∙ offer in
     sym (ap (offer_parts (parts_of b count)) bodies)
+
+pub gives-read : GivesAreRead
+unfolding give_parts
+gives-read c e w out vs pend b count number small is h frozen m parts decodes give =
+    let x : Message = record { c = c; epoch = record { 0 = e }; body = body.Give (parts_of b count) } in
+    let good : IsMessage x = record {
+      some_connection = number.0;
+      connection = number.1;
+      epoch = small;
+      table = valid w out vs pend b count is h frozen;
+      fits = fit w out vs pend b count is h frozen;
+    } in
+    let same : (let given : Result Message MsgFault = Ok x in given ≡ Ok m) = sym (again x good) ∙ decodes in
+    let bodies : body.Give (parts_of b count) ≡ body.Give parts = ap (λ (y : Message). y.body) (ok-same x m same) ∙ give in
+    sym (ap (give_parts (parts_of b count)) bodies)
 
 -- So it is of the Offer that is kept, where that is read.
 offer-of : (parts : EndpointParts) (b : Body) → parts_in b ≡ Some parts → b ≡ body.Offer parts

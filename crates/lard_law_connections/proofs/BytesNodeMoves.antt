@@ -29,6 +29,7 @@ use Rattle.lard_law_view.proofs.Growth.{goes_on-same}
 
 ends-kind : (p : Part) (n e : ℕ) (bytes : List ℕ) (b : Body) → EndsOfKind (p.nodes n) bytes (kind_of b) → NodeTells p n e bytes b
 ends-kind p n e bytes (body.Ended reason snd rcv count) h = inr h
+ends-kind p n e bytes (body.Give parts) h = inr h.0
 ends-kind p n e bytes _ h = tt
 
 node-fair : (k : Talk) (c n : ℕ) (p : Part) (s : Place × List ℕ) → NodeSays c (p.nodes n) s → IsFair k c p (letter (Node n) s)

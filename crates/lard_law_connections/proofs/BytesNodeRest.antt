@@ -1,11 +1,10 @@
 -- The acknowledgement of an end, what a node does for others, and what changes nothing, leave a connection in agreement.
 use Rattle.lard_segment.specs.Segment as spelling
-use Rattle.lard_law_view.specs.Prelude.{Acknowledged, BackRow, Completed, Conn, Content, EachRow, FilesAt, Fires, Forwarded, Front, FrontConn, FrontRow, IsNodeEnv, Move, Node, NodeDeed, NodeEnv, NodeGets, NodePart, NodeRules, Offered, Place, Rec, Seen, SegFault, Setting, Station, Stream, Tagged, Tale, Talk, ToCluster, TurnSaid, Verdict, Was, awaits_ack, both_of, bytes_served_in, come_by, content_said, decoded, gone, grown, is_ended, is_reset_record, letter, letters_of, node_acknowledged, node_does, node_forwarded, node_put_back, node_read_by, node_rule, node_saying, nothing_said, packet_seen, seen_in, seen_step, served_in, stands, staying, tale_at, tale_step, timer_rows, told_on, with_node, without}
+use Rattle.lard_law_view.specs.Prelude.{Acknowledged, BackRow, Completed, Conn, Content, EachRow, FilesAt, Fires, Forwarded, Front, FrontConn, FrontRow, IsNodeEnv, Leaves, Move, Node, NodeDeed, NodeEnv, NodeGets, NodePart, NodeRules, Offered, Place, Rec, Seen, SegFault, Setting, Station, Stream, Tagged, Tale, Talk, TimerKind, ToCluster, TurnSaid, Verdict, Was, awaits_ack, awaits_told, back_endpoint, both_of, bytes_served_in, come_by, content_said, decoded, goes_back_by, gone, grown, is_ended, is_reset_record, letter, letters_of, node_acknowledged, node_does, node_forwarded, node_put_back, node_read_by, node_rule, node_saying, nothing_said, packet_seen, seen_in, seen_step, served_in, stands, staying, tale_at, tale_step, timer_rows, told_kind, told_on, with_node, without}
 use Rattle.lard_law_connections.specs.BytesTurning.{IsNoteOf}
-use Rattle.std.proofs.Common.{Bool, List, None, Option, Result, Some, [], ap, arith, cond, eqb-true, false, inl, inr, map, refl, subst, sym, true, ℕ, ⊎_elim, ◌&&◌, ◌<◌, ◌==◌, ◌^◌, ◌∙◌, ◌∷◌, ◌≡◌, ◌≤◌}
+use Rattle.std.proofs.Common.{Bool, List, None, Option, Result, Some, [], ap, arith, cond, eqb-true, false, inl, inr, map, refl, subst, sym, true, ℕ, ⊎_elim, ◌<◌, ◌==◌, ◌^◌, ◌∙◌, ◌∷◌, ◌≡◌, ◌≤◌}
 use Rattle.std.specs.List.{fold, list_any}
-use Rattle.std.proofs.lemmas.Bool.{and_parts}
-use Rattle.lard_base.specs.declared.place.TimerKind.TheVariants as timer
+use Rattle.std.proofs.lemmas.Bool.{and_parts, both_ways, cond_both}
 use Rattle.lard_law_connections.specs.BytesAgreement.{ConnAgrees, IsFair, IsInner, IsOffering, IsOpen, IsTruthful, IsConnUnopened, NodeAgrees, SeatAgrees, StageAgrees}
 use Rattle.lard_law_connections.proofs.BytesLaw.{Helps, IsSeenTrue, IsTrueMove, OwnerServes, StaysTruthful}
 use Rattle.lard_law_connections.specs.BytesRecords.{IsOwnedTrueAfter}
@@ -14,11 +13,10 @@ use Rattle.lard_law_connections.proofs.BytesTelling.{Tells, gave-true, heads-tru
 use Rattle.lard_law_connections.proofs.BytesClientMoves.{has-fair, open-at}
 use Rattle.lard_law_connections.proofs.BytesMoves.{idle-goes, move-goes}
 use Rattle.lard_law_connections.proofs.BytesNodeMoves.{ends-put, stands-goes, ways-put}
-use Rattle.lard_law_connections.proofs.BytesNodeTurns.{contents-goes, fires-goes, forwards-goes, offers-goes, read-goes, tags-goes}
+use Rattle.lard_law_connections.proofs.BytesNodeTurns.{contents-goes, fires-goes, forwards-goes, leaves-goes, offers-goes, read-goes, tags-goes}
 use Rattle.lard_law_connections.proofs.BytesTold.{Bytes, bytes_of, gave-fin, heads-fin, move-bytes, place-notes}
 use Rattle.lard_law_view.proofs.NodeHeads.{of-heads}
 use Rattle.lard_law_connections.specs.Places.{HasEnded, IsDecided, IsOver, IsPast, Owning, Sits, owning}
-use Rattle.lard_law_connections.proofs.PlacesFrontMessages.{came-says}
 use Rattle.lard_law_view.specs.View.{sending}
 use Rattle.lard_law_view.proofs.EachNode.{Answers, Aside, Brings, NodeComes, Queues, aside_said, aside_seen, each-node, job_notes, node_goes, told_first}
 use Rattle.lard_law_view.proofs.Rows.{grown-tale, move-lawful, tale_before, tale_said}
@@ -27,9 +25,9 @@ use Rattle.lard_handoff_back.specs.declared.row.BackConn.TheVariants as back
 use Rattle.lard_handoff_front.specs.declared.row.FrontConn.TheVariants as stage
 use Rattle.lard_history.proofs.Each.{Each, Each-append}
 use Rattle.lard_journal.specs.declared.rec.Rec.TheVariants as rec
-use Rattle.lard_message.specs.declared.message.Body.TheVariants as body
 use Rattle.lard_rules.specs.Node.{Does, Drops, Says}
 use Rattle.lard_segment.proofs.Again.{again}
+use Rattle.lard_law_connections.proofs.PlacesNodeEnds.{acks-say}
 
 -- ---- the acknowledgement of an end
 
@@ -40,9 +38,9 @@ module _ (k : Setting) (small : k.stream ≤ 2 ^ 30) (x : Conn) (s : Station) (t
   abbrev Goes : NodeDeed → Type 0
   Goes d = Helps x (node_does x n heads d) → IsTrueMove k.files x (node_does x n heads d)
 
-  module _ (row : BackRow) (found : p.row ≡ Some row) (ended : HasEnded row.epoch.0 x.part.front.row) where
+  module _ (told : TimerKind) (row : BackRow) (found : p.row ≡ Some row) (ended : HasEnded row.epoch.0 x.part.front.row) where
     abbrev q : NodePart
-    q = record p { row = gone p.row; kept = without timer.Ended 0 p.kept }
+    q = record p { row = gone p.row; kept = without told 0 p.kept }
 
     gone-is : q.row ≡ Some (record row { stage = back.Gone })
     gone-is = ap gone found
@@ -84,19 +82,25 @@ module _ (k : Setting) (small : k.stream ≤ 2 ^ 30) (x : Conn) (s : Station) (t
   rest-drops : Goes Drops
   rest-drops help = stands-goes k small x s there l pend o n heads [] [] tt refl refl refl (quiet Drops) tt help
 
-  acknowledged-goes : (env : NodeEnv) → HasEnded env.epoch x.part.front.row → Goes (node_acknowledged env p)
-  acknowledged-goes env ended = by-row p.row refl where
-    by-row : (r : Option BackRow) → p.row ≡ r → Goes (cond (awaits_ack env.epoch r) (Does (record p { row = gone p.row; kept = without timer.Ended 0 p.kept }, node_saying [])) Drops)
-    by-row None found = rest-drops
-    by-row (Some row) found = go (row.epoch.0 == env.epoch && is_ended row.stage) refl where
-      go : (b : Bool) → (row.epoch.0 == env.epoch && is_ended row.stage) ≡ b → Goes (cond b (Does (record p { row = gone p.row; kept = without timer.Ended 0 p.kept }, node_saying [])) Drops)
-      go true e = gone-goes row found (subst (λ (f : ℕ). HasEnded f x.part.front.row) (sym (eqb-true row.epoch.0 env.epoch (and_parts (row.epoch.0 == env.epoch) (is_ended row.stage) e).0)) ended)
-      go false e = rest-drops
+  -- what answers that its stay is over
+  acknowledged-goes : (env : NodeEnv) (back : Bool) → HasEnded env.epoch x.part.front.row → Goes (node_acknowledged env back p)
+  acknowledged-goes env back ended = cond_both (awaits_told back env p) (Does (gone_part, node_saying [])) Drops Goes (λ t. by-row p.row refl (awaited back t)) (λ t. rest-drops) where
+    gone_part : NodePart
+    gone_part = record p { row = gone p.row; kept = without (told_kind back) 0 p.kept }
+
+    awaited : (b : Bool) → awaits_told b env p ≡ true → awaits_ack env.epoch p.row ≡ true
+    awaited true t = (and_parts (awaits_ack env.epoch p.row) _ t).0
+    awaited false t = (and_parts (awaits_ack env.epoch p.row) _ t).0
+
+    by-row : (r : Option BackRow) → p.row ≡ r → awaits_ack env.epoch r ≡ true → Goes (Does (gone_part, node_saying []))
+    by-row None found t = absurd (both_ways false refl t)
+    by-row (Some row) found t = gone-goes (told_kind back) row found
+        (subst (λ (f : ℕ). HasEnded f x.part.front.row) (sym (eqb-true row.epoch.0 env.epoch (and_parts (row.epoch.0 == env.epoch) (is_ended row.stage) t).0)) ended)
 
 -- ---- nothing of bytes happens to one whose client did not open
 
 module _ (files : FilesAt) (x : Conn) (none : x.part.station ≡ None) (h : IsTruthful files x) where
-  never : IsConnUnopened x
+  pub never : IsConnUnopened x
   never = subst (ConnAgrees files x h.talk h.pend) none h.agrees
 
   -- what is told then is of no stream
@@ -162,6 +166,12 @@ module _ (files : FilesAt) (x : Conn) (none : x.part.station ≡ None) (h : IsTr
     go None past = refl
     go (Some row) past = absurd (omega (arith, past.0))
 
+  pub nothing-held : (n : ℕ) → Sits (owning (tale_at x)) x.part.nodes x.part.front.row → both_of (back_endpoint (x.part.nodes n).row) (x.part.nodes n).stay ≡ None
+  nothing-held n sits = go (x.part.nodes n).row ((subst (Sits (owning (tale_at x)) x.part.nodes) never.front sits).1 n) where
+    go : (r : Option BackRow) → IsPast 0 r → both_of (back_endpoint r) (x.part.nodes n).stay ≡ None
+    go None past = refl
+    go (Some row) past = absurd (omega (arith, past.0))
+
 -- ---- the rules
 
 -- of one whose client did not open no packet comes between the front end and a node
@@ -190,31 +200,31 @@ module _ (k : Setting) (small : k.stream ≤ 2 ^ 30) where
     abbrev ours : NodePart
     ours = x.part.nodes n
 
-    abbrev Leaves : NodeGets → NodeDeed → Type 0
-    Leaves g d = Helps x (told_first (job_notes x.c n g) (node_does x n heads d))
+    abbrev IsStill : NodeGets → NodeDeed → Type 0
+    IsStill g d = Helps x (told_first (job_notes x.c n g) (node_does x n heads d))
         → IsTrueMove k.files x (told_first (job_notes x.c n g) (node_does x n heads d))
 
     module _ (s : Station) (there : x.part.station ≡ Some s) where
       open_now : IsOpen k.files x h.talk h.pend s
       open_now = open-at k.files x s there h
 
-      opened-stays : (g : NodeGets) → NodeComes x n epoch heads g → Leaves g (node_rule env ours g)
+      opened-stays : (g : NodeGets) → NodeComes x n epoch heads g → IsStill g (node_rule env ours g)
       opened-stays (Offered parts) comes =
           offers-goes k small x s there h.talk h.pend open_now n env epoch is heads quiet parts comes.bytes comes.spells comes.was
       opened-stays (Forwarded given) comes =
           let f = (has-fair (IsFair h.talk x.c x.part)
           (record { from = Front; to = Node n; bytes = comes.came.bytes }) x.letters comes.came.was open_now.fair) _ comes.came.spells in
-          subst (λ (r : Result spelling.Said SegFault). Leaves (Forwarded r) (node_forwarded env ours r))
+          subst (λ (r : Result spelling.Said SegFault). IsStill (Forwarded r) (node_forwarded env ours r))
           (sym (comes.read ∙ ap (λ (b : List ℕ). decoded b x.c ToCluster) f.1 ∙ again x.c ToCluster f.0 f.2.sendable))
           (forwards-goes k small x s there h.talk h.pend open_now n env epoch is heads quiet f.0 f.2)
       opened-stays (Tagged number nodes) comes = tags-goes k small x s there h.talk h.pend open_now n env epoch is heads quiet number nodes
       opened-stays (Content from r) comes = contents-goes k small x s there h.talk h.pend open_now n env epoch is heads quiet from r
-      opened-stays Acknowledged comes = λ help. acknowledged-goes k small x s there h.talk h.pend open_now n heads quiet env
-          (subst (λ (e : ℕ). HasEnded e x.part.front.row) (sym is.epoch_is)
-          (came-says x Front (Node n) epoch body.EndedAck comes.bytes help.placed.letters comes.was comes.spells)) help
+      opened-stays (Acknowledged back) comes = λ help. acknowledged-goes k small x s there h.talk h.pend open_now n heads quiet env back
+          (subst (λ (e : ℕ). HasEnded e x.part.front.row) (sym is.epoch_is) (acks-say x help.placed n epoch back comes.bytes comes.was comes.spells)) help
       opened-stays (Completed r path) comes = subst
           (λ (hs : List Seen). Helps x (node_goes x n env hs (Completed r path)) → IsTrueMove k.files x (node_goes x n env hs (Completed r path))) (sym comes)
           (read-goes k small x s there h.talk h.pend open_now n env epoch is r path)
+      opened-stays Leaves comes = leaves-goes k small x s there h.talk h.pend open_now n env epoch is heads quiet (is.epoch_is ∙ comes.1)
       opened-stays Fires comes = fires-goes k small x s there h.talk h.pend open_now n env epoch is heads quiet (is.epoch_is ∙ comes.epoch_is)
 
     module _ (none : x.part.station ≡ None) where
@@ -222,15 +232,17 @@ module _ (k : Setting) (small : k.stream ≤ 2 ^ 30) where
       unopened = never k.files x none h
 
       -- no node has it
-      unopened-stays : (g : NodeGets) → NodeComes x n epoch heads g → Leaves g (node_rule env ours g)
+      unopened-stays : (g : NodeGets) → NodeComes x n epoch heads g → IsStill g (node_rule env ours g)
       unopened-stays (Forwarded given) comes = absurd (front-opens x n comes.came.bytes comes.came.was unopened)
-      unopened-stays (Content from r) comes = λ help. subst (Leaves (Content from r))
+      unopened-stays (Content from r) comes = λ help. subst (IsStill (Content from r))
           (sym (ap (come_by env from r ours) (nothing-here k.files x none h n env.epoch help.placed.sits)))
           (λ o. unopened-goes k.files x none h (Node n) heads nothing_said tt refl refl refl o (quiet Drops) tt) help
-      unopened-stays (Completed r path) comes = λ help. subst (Leaves (Completed r path))
+      unopened-stays (Completed r path) comes = λ help. subst (IsStill (Completed r path))
           (sym (ap (node_read_by env r ours) (nothing-here k.files x none h n env.epoch help.placed.sits)))
           (λ o. unopened-goes k.files x none h (Node n) heads (record nothing_said { notes = rec.Read n n x.c r path ∷ [] }) (tt, tt) refl refl refl o
           (quiet Drops) tt) help
+      unopened-stays Leaves comes = λ help. subst (IsStill Leaves) (sym (ap (goes_back_by env ours) (nothing-held k.files x none h n help.placed.sits)))
+          (λ o. unopened-goes k.files x none h (Node n) heads nothing_said tt refl refl refl o (quiet Drops) tt) help
       unopened-stays Fires comes = let no : Some comes.station ≡ None = sym comes.there ∙ none in absurd cc
       unopened-stays g comes = absurd (front-opens x n comes.bytes comes.was unopened)
 

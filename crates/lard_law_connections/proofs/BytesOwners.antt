@@ -1,6 +1,6 @@
 -- Who serves a connection owns it; and what is seen before the notes of a move. So it is of each rule, by where the connection is.
 use Rattle.std.proofs.Common.{◌≡◌, ℕ, ◌+◌, Bool, true, false, cond, List, [], ◌∷◌, ◌++◌, Option, Some, None, refl, sym, ap, ◌∙◌, subst, append_assoc, append-nil}
-use Rattle.lard_law_view.specs.Prelude.{Ask, Client, ClientBlock, ClientRules, Completed, Conn, ControlBlock, EndpointParts, First, Front, FrontEnv, FrontGets, FrontPart, FrontRest, FrontRow, FrontRules, IsNodeEnv, LaterChoice, MayRestOn, Move, Node, NodeEnv, NodeGets, NodePart, NodeRules, Place, Reading, Rec, Said, Seen, Service, Setting, Station, Stay, Turn, UntouchedRules, Work, assigned_notes, back_notes, back_part, back_rest, came_for, client_begins, client_does, client_rule, come_progress, front_does, front_reads, front_rest, front_rule, given_sent, goes_on, last_words, named_records, node_does, node_read, node_rule, on_segment, over_note, owner_step, placed, read_progress, reads_first, returned_row, serving_settled, stands, tagged, taken_sent, tale_at, tombstone, with_work, without, work_of}
+use Rattle.lard_law_view.specs.Prelude.{Ask, Client, ClientBlock, ClientRules, Completed, Conn, ControlBlock, EndpointParts, First, Front, FrontEnv, FrontGets, FrontPart, FrontRest, FrontRow, FrontRules, IsNodeEnv, LaterChoice, MayRestOn, Move, Node, NodeEnv, NodeGets, NodePart, NodeRules, Place, Reading, Rec, Said, Seen, Service, Setting, Station, Stay, Turn, UntouchedRules, Work, assigned_notes, back_notes, back_part, back_rest, came_for, client_begins, client_does, client_rule, come_progress, front_does, front_reads, front_rest, front_rule, given_sent, gives_back, goes_on, last_words, named_records, node_does, node_read, node_rule, on_segment, over_note, owner_step, placed, read_progress, reads_first, returned_row, serving_settled, stands, tagged, taken_sent, tale_at, tombstone, with_work, without, work_of}
 use Rattle.lard_law_view.proofs.EachClient.{client_seen, each-client, of-client}
 use Rattle.lard_law_view.proofs.EachFront.{admission, each-front, of-front}
 use Rattle.lard_base.specs.declared.place.TimerKind.TheVariants as kind
@@ -21,7 +21,7 @@ use Rattle.lard_history.proofs.Each.{Each, Each-append}
 use Rattle.lard_journal.specs.declared.rec.Rec.TheVariants as rec
 use Rattle.lard_law_view.proofs.Notes.{same-number}
 use Rattle.lard_rules.specs.Node as node
-use Rattle.lard_rules.proofs.NodeCases.{IsHereWith, IsInItsEpoch, KeptByNode, node-keeps}
+use Rattle.lard_rules.proofs.NodeCases.{IsHereWith, IsOfItsEpoch, KeptByNode, Turned, node-keeps}
 use Rattle.lard_rules.proofs.FrontCases.{IsAsGiven, IsInStage, KeptByFront, KeptByReturn, KeptBySegment, back_reading, front-keeps, heard_reading, of-stage}
 
 -- ---- notes
@@ -234,6 +234,13 @@ module _ (k : Setting) (x : Conn) (heads : List Seen) (quiet : Each IsHead heads
   goes-serves : (p : NodePart) (w : Work) → now ≡ Some (Node n) → Each IsPlain w.service.notes → Serves (with_work env p [] (goes_on env w))
   goes-serves p w e plain = work-serves p [] (goes_on env w) e (goes-notes (Each IsPlain) plain-more env w plain)
 
+  -- what goes back was served before
+  back-serves : (p : NodePart) (before : List (Place × List ℕ)) (w : Work) → now ≡ Some (Node n) → Each IsPlain w.service.notes → Serves (gives_back env p before w)
+  back-serves p before w e plain noted = plain-serve (Node n) x.c now (named_records w.service.notes) noted (plain-named w.service.notes plain) e
+
+  turns-serve : (p : NodePart) (w : Work) → now ≡ Some (Node n) → Each IsPlain w.service.notes → Turned Serves env p [] (goes_on env w)
+  turns-serve p w e plain = (λ stays. goes-serves p w e plain, λ back. back-serves p [] (goes_on env w) e (goes-notes (Each IsPlain) plain-more env w plain))
+
   -- it takes a connection first, and then it serves
   takes-serves : (rest : List Rec) → Each IsPlain rest → Each (NotedAt (Node n) x.c) rest → OwnerServes x.c now (took_by env ∷ rest)
   takes-serves rest plain noted = (
@@ -255,21 +262,23 @@ module _ (k : Setting) (x : Conn) (heads : List Seen) (quiet : Each IsHead heads
     rules_serve : KeptByNode env ours (λ g. Unit {0}) Serves
     rules_serve = record {
       drops = λ noted. tt;
-      hears = λ said b s m at. goes-serves ours (work_of (on_segment b said).1 s) (owns b s at) tt;
-      tags = λ number tags b s m at asked same count. goes-serves (record ours { kept = without kind.Ask 0 ours.kept }) (tagged env tags (work_of b s))
+      hears = λ said b s m at. turns-serve ours (work_of (on_segment b said).1 s) (owns b s at) tt;
+      tags = λ number tags b s m at asked same count. turns-serve (record ours { kept = without kind.Ask 0 ours.kept }) (tagged env tags (work_of b s))
           (owns b s at) (tagged-notes (Each IsPlain) plain-more env tags (work_of b s) tt);
-      comes = λ from r b s m at wanted. goes-serves (record ours { fetches = without kind.Fetch r ours.fetches })
+      comes = λ from r b s m at wanted. turns-serve (record ours { fetches = without kind.Fetch r ours.fetches })
           (came_for (come_progress from) r (work_of b s)) (owns b s at) (came-notes (Each IsPlain) plain-more (come_progress from) r (work_of b s) tt);
-      reads = λ r path b s m at. goes-serves ours (came_for read_progress r (work_of b s)) (owns b s at)
+      reads = λ r path b s m at. turns-serve ours (came_for read_progress r (work_of b s)) (owns b s at)
           (came-notes (Each IsPlain) plain-more read_progress r (work_of b s) tt);
-      begins = λ parts m new. begins-serves parts;
+      begins = λ parts m new may. begins-serves parts;
       takes_again = λ parts m again noted. tt;
       fires = λ b s m at noted. tt;
       resends = λ m none noted. tt;
-      ends = λ m told noted. tt;
+      refuses = λ parts m is noted. tt;
+      ends = λ back m told was noted. tt;
+      leaves = λ b s m at back. back-serves ours [] (work_of b s) (owns b s at) tt;
     }
 
-    rule-serves : (g : NodeGets) → IsInItsEpoch env ours g → Serves (node_rule env ours g)
+    rule-serves : (g : NodeGets) → IsOfItsEpoch env ours g → Serves (node_rule env ours g)
     rule-serves g at = node-keeps env ours (λ g. Unit {0}) Serves rules_serve g at tt
 
   by-node : (d : node.NodeDeed) → Serves d → IsItsOwn x (node_does x n heads d) → Known x (node_does x n heads d)
@@ -298,7 +307,7 @@ module _ (k : Setting) where
       (of-front x (Each IsHead) (λ from bytes. (tt, tt)) tt (tt, tt) env heads g comes)
       (front_rule env x.part.front g) (front-serves x env may.given g (admission x env heads g comes)))
 
-  does-known : (x : Conn) (n epoch : ℕ) (env : NodeEnv) (heads : List Seen) (g : NodeGets) → IsNodeEnv k x.c n epoch env → IsInItsEpoch env (x.part.nodes n) g
+  does-known : (x : Conn) (n epoch : ℕ) (env : NodeEnv) (heads : List Seen) (g : NodeGets) → IsNodeEnv k x.c n epoch env → IsOfItsEpoch env (x.part.nodes n) g
       → Each IsHead heads → Knows x (node_goes x n env heads g)
   does-known x n epoch env heads (Completed r path) is at first may own =
       by-job k x heads first n epoch env is r path (node_read env (x.part.nodes n) r)
@@ -313,7 +322,7 @@ module _ (k : Setting) where
 
   nodes : NodeRules k Knows
   nodes = each-node k Knows (record {
-    does = λ x n epoch env heads g is at comes. does-known x n epoch env heads g is at (heads-of IsHead (λ l. tt) (λ m c. tt) x n epoch heads g comes);
+    does = λ x n epoch env heads g is at comes. does-known x n epoch env heads g is at.0 (heads-of IsHead (λ l. tt) (λ m c. tt) x n epoch heads g comes);
     aside = λ x n a rest may own. aside-known x n a;
   })
 

@@ -1,6 +1,6 @@
 -- The law of bytes in every run: of each state, and of each record.
-use Rattle.std.proofs.Common.{◌≡◌, ◌≤◌, ◌^◌, ℕ, false, List, [], Some, None, refl, ap, ◌∙◌, sym, subst}
-use Rattle.lard_law_view.specs.Prelude.{Client, Config, Conn, EachMay, EachRow, FilesAt, Front, Guarded, IsGuardedLaw, IsReached, Machine, MayAccept, MayRestOn, MayTell, Move, Node, OfEach, Place, Rec, Seen, Setting, Stream, Tale, Talk, ToldTo, UntouchedRules, WhileUntouched, conn, conn_of, file_at, is_touched, own, plain, setting, tale_at, whose, with_leaving}
+use Rattle.std.proofs.Common.{◌≡◌, ◌≤◌, ◌^◌, ℕ, false, List, [], Some, None, refl, ap, ◌∙◌, sym, subst, Ok}
+use Rattle.lard_law_view.specs.Prelude.{Client, Config, Conn, EachMay, EachRow, FilesAt, Front, Guarded, IsGuardedLaw, IsReached, Machine, MayAccept, MayRestOn, MayTell, Move, Node, OfEach, Place, Rec, Seen, Setting, Stream, Tale, Talk, ToldTo, UntouchedRules, WhileUntouched, config_check, conn, conn_of, file_at, is_touched, own, plain, setting, tale_at, whose, with_leaving}
 use Rattle.lard_law_connections.specs.BytesAgreement.{IsTruthful}
 use Rattle.lard_law_connections.proofs.BytesLaw.{IsSeenTrue, IsTrueMove, StaysTruthful}
 use Rattle.lard_law_connections.specs.BytesRecords.{MayServeOwned}
@@ -21,6 +21,7 @@ use Rattle.lard_history.proofs.Tales.{touched-tale}
 use Rattle.lard_journal.specs.declared.rec.Rec.TheVariants as rec
 use Rattle.lard_law_view.proofs.Moments.{at_every_moment}
 use Rattle.lard_law_view.proofs.RecordBytes.{accepts-nobody, tells-nobody}
+use Rattle.lard_base.proofs.Usable.{usable}
 
 -- ---- each rule keeps it
 
@@ -110,13 +111,13 @@ module _ (files : FilesAt) where
 
 -- ---- every run
 
-module _ (config : Config) (files : List (List ℕ × List ℕ)) (small : config.stream ≤ 2 ^ 30) where
+module _ (config : Config) (files : List (List ℕ × List ℕ)) (checked : config_check config ≡ Ok tt) where
   abbrev Holds : Conn → Type 0
   Holds x = Guarded (IsTruthful (file_at files)) (IsSeenTrue (file_at files)) x
 
   each-guarded : OfEach config files Holds
   each-guarded = carried config files IsPlaced Holds
-      (λ l. let k : Setting = with_leaving (setting config files) l in guarded-law k IsPlaced (IsTruthful (file_at files)) (IsSeenTrue (file_at files)) (bytes-law k small)) (each-placed config files)
+      (λ l. let k : Setting = with_leaving (setting config files) l in guarded-law k IsPlaced (IsTruthful (file_at files)) (IsSeenTrue (file_at files)) (bytes-law k (usable config checked).stream)) (each-placed config files checked)
 
   each : (m : Machine) → IsReached config files m → (q : ℕ) → EachRow (seen_true (file_at files) q) [] (conn m q).seen
   unfolding conn
@@ -127,14 +128,14 @@ module _ (config : Config) (files : List (List ℕ × List ℕ)) (small : config
   by-records may nobody somebody m r = carried-records config files may (seen_true (file_at files)) nobody somebody each m r
 
 pub states-truthful : StatesAreTruthful
-states-truthful config files small m r q = (each-guarded config files small m r q).0
+states-truthful config files checked m r q = (each-guarded config files checked m r q).0
 
 pub journals-tell : JournalsTellTheTruth
-journals-tell config files m small r = by-records config files small (MayTell (file_at files)) (tells-nobody (file_at files)) (tells-somebody (file_at files)) m r
+journals-tell config files m checked r = by-records config files checked (MayTell (file_at files)) (tells-nobody (file_at files)) (tells-somebody (file_at files)) m r
 
 pub journals-serve : JournalsServeTheAnswers
-journals-serve config files m small r = by-records config files small (MayServeOwned (file_at files)) (serves-nobody (file_at files)) (serves-somebody (file_at files)) m r
+journals-serve config files m checked r = by-records config files checked (MayServeOwned (file_at files)) (serves-nobody (file_at files)) (serves-somebody (file_at files)) m r
 
 pub clients-accept : ClientsAcceptAnswers
-clients-accept config files m small r = at_every_moment (file_at files) m.journal
-    (by-records config files small (MayAccept (file_at files)) (accepts-nobody (file_at files)) (accepts-somebody (file_at files)) m r)
+clients-accept config files m checked r = at_every_moment (file_at files) m.journal
+    (by-records config files checked (MayAccept (file_at files)) (accepts-nobody (file_at files)) (accepts-somebody (file_at files)) m r)

@@ -1,13 +1,14 @@
 -- The rules of a node keep the agreement of a connection that it has.
-use Rattle.std.proofs.Common.{Bool, List, None, Ok, Option, Some, [], ap, append-nil, append_assoc, arith, inl, inr, refl, subst, sym, true, ℕ, ◌++◌, ◌-◌, ◌==◌, ◌||◌, ◌∙◌, ◌∷◌, ◌≡◌, ◌⊎◌}
+use Rattle.std.proofs.Common.{Bool, List, None, Ok, Option, Some, [], ap, append-nil, append_assoc, arith, inl, inr, refl, subst, sym, true, ℕ, ◌++◌, ◌==◌, ◌||◌, ◌∙◌, ◌∷◌, ◌≡◌, ◌⊎◌, ◌≢◌}
 use Rattle.std.specs.List.{find, list_any}
 use Rattle.std.proofs.lemmas.Bool.{cond_both}
-use Rattle.lard_law_view.specs.Prelude.{Adopt, Asked, BackConn, BackRow, ControlBlock, Ending, EndpointParts, IsWord, NodeDeed, NodeEnv, NodePart, NodeTurn, Place, Said, SaysAnswers, Stay, Stream, Turn, Verdict, Want, Work, adopted, after_timer, again_sent, asked_sent, back_endpoint, back_held, both_of, came_for, come_by, come_progress, ended_sent, goes_on, here, is_from, is_reset_record, is_tag_awaited, is_under, kept_after, may_freeze, node_begins, node_fired, node_fired_by, node_heard_by, node_read_by, offer_answer, offered_by, on_segment, parts_of, read_progress, reads_batch, serving, serving_ready_of, serving_settled, spoken, state_of, staying, tagged, tagged_by, taken_sent, timed, turn_by, wants_sent, with_work, without, work_of}
+use Rattle.lard_law_view.specs.Prelude.{Adopt, Asked, BackConn, BackRow, ControlBlock, Ending, EndpointParts, IsWord, NodeDeed, NodeEnv, NodePart, NodeTurn, Place, Said, SaysAnswers, Stay, Stream, Turn, Verdict, Want, Work, adopted, after_timer, again_sent, asked_sent, back_endpoint, back_held, both_of, came_for, come_by, come_progress, ended_sent, gives_back, give_kept, goes_back_by, goes_on, here, is_from, is_reset_record, is_tag_awaited, is_under, kept_after, kept_back, may_freeze, may_give_back, node_begins, node_fired, node_fired_by, node_heard_by, node_read_by, node_turns, offer_decision, offered_by, on_segment, parts_of, read_progress, reads_batch, serving, serving_ready_of, sent_of, serving_settled, spoken, state_of, staying, tagged, tagged_by, taken_sent, timed, turn_back, turn_by, wants_sent, with_work, without, work_of}
 use Rattle.lard_base.specs.declared.place.Place.TheVariants as place
 use Rattle.lard_base.specs.declared.place.TimerKind.TheVariants as kind
 use Rattle.lard_law_connections.specs.BytesAgreement.{AreOnTheWay, BackAgrees, EndAgreesPending, FrontHolds, HoldsItPending, NodeAgrees, RowAgrees, StayAgrees, StayComesOn}
-use Rattle.lard_law_connections.specs.BytesKeeping.{ContentsKeep, DeedKeeps, IsTalk, NodeHearsTruth, NodeTimerKeeps, NodeSays, NodeTurned, OffersKeep, ReadsKeep, TagsKeep}
+use Rattle.lard_law_connections.specs.BytesKeeping.{ContentsKeep, DeedKeeps, IsTalk, LeavesKeep, NodeHearsTruth, NodeTimerKeeps, NodeSays, NodeTurned, OffersKeep, ReadsKeep, TagsKeep}
 use Rattle.lard_law_connections.specs.BytesTurning.{EndTurned}
+use Rattle.lard_law_connections.proofs.BytesBack.{back-frozen, back-holds}
 use Rattle.lard_law_connections.proofs.BytesEnding.{settled-ends}
 use Rattle.lard_law_connections.proofs.BytesHolding.{adopted-so, fired-ends, heard-so, same-so}
 use Rattle.lard_law_connections.proofs.BytesServing.{MayGo, So, go-on}
@@ -35,7 +36,7 @@ module _ (env : NodeEnv) (w out : Stream) (vs : List Verdict) (was_reset : Bool)
   ends-agree : (p : NodePart) (k : Work) (now : Stream) (us : List Verdict) (r : Bool) (e : Ending) → EndAgreesPending w now us (verdicts_of k.batch) r e
       → NodeAgrees w now us (verdicts_of k.batch) r env.serve.c (kept_after env p k e)
   ends-agree p k now us r (ending.Here b count) h = (refl, h)
-  ends-agree p k now us r (ending.Over last) h = record { last = last; count = node.reset_count k.service.over; ended = h; kept_is = refl }
+  ends-agree p k now us r (ending.Over last) h = inl (record { last = last; count = node.reset_count k.service.over; ended = h; kept_is = refl })
 
   ends-way : (p : NodePart) (k : Work) (e : Ending) → Right env w out vs k → StayComesOn env.serve.files (kept_after env p k e).stay
   ends-way p k (ending.Here b count) right = right
@@ -103,6 +104,41 @@ module _ (env : NodeEnv) (w out : Stream) (vs : List Verdict) (was_reset : Bool)
   work-turns : (old p : NodePart) (before : List (Place × List ℕ)) (k : Work) → ((q : NodePart) → Before old q before) → Works env w out vs k → Right env w out vs k → Keeps old (with_work env p before k)
   work-turns old p before k first h right = rests-turn old p before k (serving_settled env.serve k.service) (first _) right (settled-ends env.serve w out vs was_reset k.service (verdicts_of k.batch) h)
 
+  -- ---- it goes back
+
+  back-says : (p : NodePart) (k : Work) → Each (NodeSays env.serve.c (kept_back env p k)) (turn_back env [] k).messages
+  back-says p k =
+      let q : NodePart = kept_back env p k in
+      Each-append (NodeSays env.serve.c q) (asked_sent env k.asked ++ wants_sent env k.wants) (sent_of (give_kept env k) ∷ [])
+      (Each-append (NodeSays env.serve.c q) (asked_sent env k.asked) (wants_sent env k.wants) (asked-says q k.asked) (wants-say q k.wants))
+      ((inr (env.epoch, body.Give (parts_of k.service.block k.service.count), refl, ((give_kept env k, refl, refl), tt))), tt)
+
+  back-turns : (old p : NodePart) (k : Work) → Works env w out vs k → may_give_back env k ≡ true → Keeps old (gives_back env p [] k)
+  back-turns old p k h back = record {
+    out_after = h.out_now;
+    vs_after = h.vs_now;
+    pend_after = [];
+    longer = h.longer;
+    says = h.says;
+    agrees = inr (record {
+      block = k.service.block;
+      count = k.service.count;
+      frozen = back-frozen env w out vs k h back;
+      holds = back-holds env w out vs k h back;
+      returned = refl;
+      kept_is = refl;
+    });
+    noted = h.noted;
+    ways = tt;
+    sent = tt;
+    decided = omega arith;
+    again = [];
+    more = (turn_back env [] k).messages;
+    messages = refl;
+    told = inl refl;
+    said = back-says p k;
+  }
+
   -- a stay that agrees
   abbrev pub IsHeld : List Verdict → ControlBlock × Stay → Type 0
   IsHeld pend x = (pend ≡ verdicts_of x.1.batch) × HoldsItPending w out vs pend x.0 x.1.served × AreOnTheWay env.serve.files x.1.batch
@@ -134,8 +170,11 @@ module _ (env : NodeEnv) (w out : Stream) (vs : List Verdict) (was_reset : Bool)
   -- ---- the rules
 
   module _ (talk : IsTalk env w out vs) (pend : List Verdict) (p : NodePart) (h : NodeAgrees w out vs pend was_reset env.serve.c p) (ways : StayComesOn env.serve.files p.stay) where
-    goes-turn : (p_kept : NodePart) (k : Work) → Works env w out vs k → Right env w out vs k → Keeps p (with_work env p_kept [] (goes_on env k))
-    goes-turn p_kept k works right = work-turns p p_kept [] (goes_on env k) (none-before p) (goes-so env w out vs talk.most k works right) (goes-right env k right)
+    goes-turn : (p_kept : NodePart) (k : Work) → Works env w out vs k → Right env w out vs k → Keeps p (node_turns env p_kept [] (goes_on env k))
+    goes-turn p_kept k works right =
+        let so = goes-so env w out vs talk.most k works right in
+        cond_both (may_give_back env (goes_on env k)) (gives_back env p_kept [] (goes_on env k)) (with_work env p_kept [] (goes_on env k)) (Keeps p)
+        (λ t. back-turns p p_kept (goes_on env k) so t) (λ t. work-turns p p_kept [] (goes_on env k) (none-before p) so (goes-right env k right))
 
     hears-turn : (s : Said) → IsWord w s → Keeps p (node_heard_by env p (Ok s) (here env.epoch p))
     hears-turn s word = at-epoch pend (λ x. Keeps p (node_heard_by env p (Ok s) x)) tt
@@ -145,7 +184,7 @@ module _ (env : NodeEnv) (w out : Stream) (vs : List Verdict) (was_reset : Bool)
 
     tags-turn : (number : ℕ) (nodes : List ℕ) → Keeps p (tagged_by env number nodes p (here env.epoch p))
     tags-turn number nodes = at-epoch pend (λ x. Keeps p (tagged_by env number nodes p x)) tt
-        (λ x held. cond_both (is_tag_awaited env number nodes p x.1) (with_work env (record p { kept = without kind.Ask 0 p.kept }) [] (goes_on env (tagged env nodes (work_of x.0 x.1)))) Drops (Keeps p)
+        (λ x held. cond_both (is_tag_awaited env number nodes p x.1) (node_turns env (record p { kept = without kind.Ask 0 p.kept }) [] (goes_on env (tagged env nodes (work_of x.0 x.1)))) Drops (Keeps p)
         (λ t. goes-turn (record p { kept = without kind.Ask 0 p.kept }) (tagged env nodes (work_of x.0 x.1)) (tagged-so env w out vs nodes (work_of x.0 x.1) (same-works pend x talk.says held)) (tagged-right env nodes (work_of x.0 x.1) held.2))
         (λ t. tt))
         p env.serve.c p.row h ways
@@ -153,7 +192,7 @@ module _ (env : NodeEnv) (w out : Stream) (vs : List Verdict) (was_reset : Bool)
     comes-turn : (from r : ℕ) → Keeps p (come_by env from r p (here env.epoch p))
     comes-turn from r = at-epoch pend (λ x. Keeps p (come_by env from r p x)) tt
         (λ x held. cond_both (is_from from env.epoch (find (is_under kind.Fetch r) p.fetches))
-        (with_work env (record p { fetches = without kind.Fetch r p.fetches }) [] (goes_on env (came_for (come_progress from) r (work_of x.0 x.1)))) Drops (Keeps p)
+        (node_turns env (record p { fetches = without kind.Fetch r p.fetches }) [] (goes_on env (came_for (come_progress from) r (work_of x.0 x.1)))) Drops (Keeps p)
         (λ t. goes-turn (record p { fetches = without kind.Fetch r p.fetches }) (came_for (come_progress from) r (work_of x.0 x.1))
         (came-so env w out vs (come_progress from) r (work_of x.0 x.1) (same-works pend x talk.says held))
         (came-right env.serve.files (come_progress from) (come_progress-on env.serve.files from) r (work_of x.0 x.1) held.2))
@@ -175,6 +214,13 @@ module _ (env : NodeEnv) (w out : Stream) (vs : List Verdict) (was_reset : Bool)
           rests-turn p p (again_sent p) (work_of (after_timer x.0) x.1) given (record { again = again_sent p; first = []; is = sym (append-nil (again_sent p)); told = inr refl; said = tt }) held.2
           (subst (λ (us : List Verdict). EndTurned env.serve.files env.serve.c w out vs was_reset us given) held.0 (fired-ends env.serve w out vs talk.says pend x.0 x.1.served held.1 was_reset))
 
+    -- the node leaves
+    leaves-turn : Keeps p (goes_back_by env p (both_of (back_endpoint p.row) p.stay))
+    leaves-turn = at-endpoint pend (λ x. Keeps p (goes_back_by env p x)) tt
+        (λ x held. cond_both (may_give_back env (work_of x.0 x.1)) (gives_back env p [] (work_of x.0 x.1)) Drops (Keeps p)
+        (λ t. back-turns p p (work_of x.0 x.1) (same-works pend x talk.says held) t) (λ t. tt))
+        p env.serve.c p.row h ways
+
   -- ---- an Offer
 
   module _ (talk : IsTalk env w out vs) (pend : List Verdict) (p : NodePart) (b : ControlBlock) (count : ℕ) (h : FrontHolds w out vs pend b count) (frozen : may_freeze b ≡ true) where
@@ -188,16 +234,16 @@ module _ (env : NodeEnv) (w out : Stream) (vs : List Verdict) (was_reset : Bool)
     offered-so = adopted-so env.serve w out vs talk.says [] b count h.holds frozen (rec.Took (place.Node env.n) env.serve.c (record { 0 = env.epoch }) ∷ [])
         (record { each = (tt, tt); served = omega arith; size = omega arith; unless_ended = inr refl; serve = λ t told. ((λ J e. tt), tt) })
 
-    offers-turn : (a : Adopt) → Keeps p (offered_by env parts p a)
-    offers-turn New =
+    offers-turn : (a : Adopt) → a ≢ Refuse → Keeps p (offered_by env parts p a)
+    offers-turn New other =
         let first : Work = node_begins env parts in
         let may : MayGo w offered-so.vs_now [] first.service = go-on env.serve w out vs first.service [] offered-so refl refl refl in
         let works = first-so env w out vs true first offered-so may refl in
         let right = batch-right env true first refl tt in
         work-turns p p (taken_sent env) (goes_on env (state_of (reads_batch env true first))) (λ q. record { again = []; first = taken_sent env; is = refl; told = inl refl; said = (inr (env.epoch, body.Taken, refl, tt), tt) }) (goes-so env w out vs talk.most (state_of (reads_batch env true first)) works right) (goes-right env (state_of (reads_batch env true first)) right)
-    offers-turn Again = inr (inr (env.epoch, body.Taken, refl, tt), tt)
-    offers-turn Stale = tt
-    offers-turn Refuse = tt
+    offers-turn Again other = inr refl
+    offers-turn Stale other = tt
+    offers-turn Refuse other = absurd (other refl)
 
 -- ---- what is kept
 
@@ -216,5 +262,9 @@ reads-keep r env w out vs pend was_reset p talk h ways = reads-turn env w out vs
 pub timer-keeps : NodeTimerKeeps
 timer-keeps env w out vs pend was_reset p talk h ways = fires-turn env w out vs was_reset talk pend p h ways
 
+pub leaves-keep : LeavesKeep
+leaves-keep env w out vs pend was_reset p talk h ways = leaves-turn env w out vs was_reset talk pend p h ways
+
 pub offers-keep : OffersKeep
-offers-keep env w out vs pend was_reset p b count talk h frozen = offers-turn env w out vs was_reset talk pend p b count h frozen (offer_answer env.epoch p.row)
+offers-keep env w out vs pend was_reset p b count talk h frozen other =
+    offers-turn env w out vs was_reset talk pend p b count h frozen (offer_decision env.leaving env.epoch p.row p.beside) other

@@ -2,7 +2,7 @@
 use Rattle.std.proofs.Common.{◌≡◌, ◌≢◌, ◌⊎◌, ◌≤◌, ◌<◌, ℕ, ◌+◌, ◌-◌, ◌==◌, ◌&&◌, nat_lt, Bool, true, false, cond, List, [], ◌∷◌, ◌++◌, Option, Some, None, Result, Ok, Err, inl, inr, ⊎_elim, refl, sym, ap, subst, arith, eqb-true}
 use Rattle.std.proofs.lemmas.Bool.{and_parts, both_ways, cond_both, ltb-false, ltb-true}
 use Rattle.std.specs.List.{list_any}
-use Rattle.lard_law_view.specs.Prelude.{Acknowledged, BackConn, BackIn, BackRow, Body, Completed, Content, ControlBlock, Ending, Entry, Fires, Forwarded, Front, Has, Job, Message, MsgFault, Node, NodeDeed, NodeEnv, NodeGets, NodePart, NodeSetting, NodeState, NodeTurn, Offered, Out, Place, Service, Stay, Tagged, ToCluster, Work, after_timer, aside, back_held, both_of, came_for, come_on, come_progress, completed, content_sent, decoded, decoded_message, disk_step, fetched, fetched_file, goes_on, gone, here, is_for, job_at, kept_after, node_begins, node_brought, node_deed, node_env, node_epoch_at, node_gets, node_hears, node_part, node_put, node_read, node_read_by, node_rule, node_saying, node_step, on_segment, read_progress, reads_batch, serving, serving_ready_of, serving_settled, spoken, state_of, staying, stores_told, tagged, taken_sent, timed, with_work, without, without_job, work_of}
+use Rattle.lard_law_view.specs.Prelude.{Acknowledged, BackConn, BackIn, BackRow, Body, Completed, Content, ControlBlock, Ending, Entry, Fires, Forwarded, Front, Has, Job, Message, MsgFault, Node, NodeDeed, NodeEnv, NodeGets, NodePart, NodeSetting, NodeState, NodeTurn, Offered, Out, Place, Service, Stay, Tagged, ToCluster, Work, after_timer, aside, back_held, both_of, came_for, come_on, come_progress, completed, content_sent, decoded, decoded_message, disk_step, fetched, fetched_file, gives_back, goes_on, gone, here, is_for, job_at, kept_after, may_give_back, node_begins, node_brought, node_deed, node_env, node_epoch_at, node_gets, node_hears, node_part, node_put, node_read, node_read_by, node_rule, node_saying, node_step, on_segment, read_progress, reads_batch, serving, serving_ready_of, serving_settled, spoken, state_of, staying, stores_told, tagged, taken_sent, timed, with_work, without, without_job, work_of}
 use Rattle.lard_base.specs.declared.place.TimerKind.TheVariants as timer
 use Rattle.lard_law_connections.proofs.AwaitsNodes.{HasServed, settled-served, spoken-served}
 use Rattle.lard_law_connections.specs.Jobs.{BatchReads, HasJob, NodeReads, PartReads, RowReads, StageReads}
@@ -12,7 +12,7 @@ use Rattle.lard_law_view.proofs.Parts.{node-elsewhere, node-here}
 use Rattle.lard_handoff_back.specs.declared.row.BackConn.TheVariants as back
 use Rattle.lard_history.proofs.Seeing.{by_number, same_number}
 use Rattle.lard_message.specs.declared.message.Body.TheVariants as body
-use Rattle.lard_rules.proofs.NodeCases.{IsHereWith, IsInItsEpoch, KeptByNode, node-keeps, of-here, where-here}
+use Rattle.lard_rules.proofs.NodeCases.{IsHereWith, IsOfItsEpoch, KeptByNode, Turned, node-keeps, of-here, where-here}
 use Rattle.lard_rules.specs.declared.node.BackIn.TheVariants as input
 use Rattle.lard_rules.specs.Node.{Drops, Says, Does}
 use Rattle.lard_rules.specs.declared.places.Ending.TheVariants as ending
@@ -44,6 +44,10 @@ module _ (env : NodeEnv) (disk : List Job) (p : NodePart) where
       let done : Work = goes_on env w in
       after-reads part done (serving_settled env.serve done.service).0 (settled-served env.serve done.service) (goes-read env disk w h)
 
+  -- and where it goes back nothing is read any more
+  goes-turned : (part : NodePart) (before : List (Place × List ℕ)) (w : Work) → Reads env disk w → Turned IsDeed env part before (goes_on env w)
+  goes-turned part before w h = (λ rests. goes-deed part before w h, λ back. tt)
+
   in-hand : (b : ControlBlock) (s : Stay) → BatchReads (Jobs env.epoch) (s.served + 1) s.batch → Reads env disk (work_of b s)
   in-hand b s h = reads-more (Jobs env.epoch) (Job_for env disk []) (s.served + 1) s.batch (λ i job. job-before env.n env.serve.c env.epoch i disk [] job) h
 
@@ -67,24 +71,26 @@ module _ (env : NodeEnv) (disk : List Job) (p : NodePart) where
     rules_read : KeptByNode env p IsNoJob IsDeed
     rules_read = record {
       drops = h;
-      hears = λ said b s m at. goes-deed p [] (work_of (on_segment b said).1 s) (begun b (on_segment b said).1 s at);
-      tags = λ number nodes b s m at asked same count. goes-deed (record p { kept = without timer.Ask 0 p.kept }) []
+      hears = λ said b s m at. goes-turned p [] (work_of (on_segment b said).1 s) (begun b (on_segment b said).1 s at);
+      tags = λ number nodes b s m at asked same count. goes-turned (record p { kept = without timer.Ask 0 p.kept }) []
           (tagged env nodes (work_of b s)) (tagged-reads env disk nodes (work_of b s) refl (begun b b s at));
-      comes = λ from r b s m at wanted. goes-deed (record p { fetches = without timer.Fetch r p.fetches }) []
+      comes = λ from r b s m at wanted. goes-turned (record p { fetches = without timer.Fetch r p.fetches }) []
           (came_for (come_progress from) r (work_of b s)) (come-reads from r (work_of b s) (begun b b s at));
       reads = λ r path b s m at. absurd m;
-      begins = λ parts m new. goes-deed p (taken_sent env) (state_of (reads_batch env true (node_begins env parts)))
+      begins = λ parts m new may. goes-deed p (taken_sent env) (state_of (reads_batch env true (node_begins env parts)))
           (batch-reads env disk true (node_begins env parts) refl);
       takes_again = λ parts m again. h;
+      refuses = λ parts m is. row-more (HasJob env.n env.serve.c disk) (HasJob env.n env.serve.c (disk ++ [])) p.stay p.row (λ e i job. job-before env.n env.serve.c e i disk [] job) h;
       fires = λ b s m at.
           let w : Service = serving (after_timer b) s.served [] in
           let before : List (Place × List ℕ) = serving_ready_of env.serve (after_timer b) (timed b) in
           after-reads p (work_of (after_timer b) s) (spoken env.serve w before).0 (spoken-served env.serve w before) (begun b (after_timer b) s at);
       resends = λ m none. h;
-      ends = λ m told. gone-reads p.row;
+      ends = λ back m told was. gone-reads p.row;
+      leaves = λ b s m at back. tt;
     }
 
-    rule-reads : (g : NodeGets) → IsInItsEpoch env p g → IsNoJob g → IsDeed (node_rule env p g)
+    rule-reads : (g : NodeGets) → IsOfItsEpoch env p g → IsNoJob g → IsDeed (node_rule env p g)
     rule-reads g at m = node-keeps env p IsNoJob IsDeed rules_read g at m
 
   -- ---- the rule of a completed job, which the disk has no more
@@ -128,7 +134,10 @@ module _ (env : NodeEnv) (disk : List Job) (p : NodePart) where
 
     pub read-reads : RowReads AllBut p.stay p.row → IsDeed (node_read env p one)
     read-reads h = where-here env.epoch p (λ o. here env.epoch p ≡ o → IsDeed (node_read_by env one p o)) (λ none. away-reads p.row h none)
-        (λ b s at is. goes-deed p [] (came_for read_progress one (work_of b s)) (read-by b s (but-it b s at h))) refl
+        (λ b s at is.
+        let w : Work = came_for read_progress one (work_of b s) in
+        cond_both (may_give_back env (goes_on env w)) (gives_back env p [] (goes_on env w)) (with_work env p [] (goes_on env w)) IsDeed
+        (λ back. tt) (λ rests. goes-deed p [] w (read-by b s (but-it b s at h)))) refl
 
 -- ---- a node
 
@@ -161,7 +170,7 @@ module _ (k : NodeSetting) where
   deed-reads s c (Does x) others h = did-reads s c x.0 x.1 others h
 
   -- whatever comes but a completed job
-  node-reads : (s : NodeState) (c epoch : ℕ) (g : NodeGets) → IsInItsEpoch (node_env k s c epoch) (node_part s c) g → IsNoJob g → NodeReads k.n s
+  node-reads : (s : NodeState) (c epoch : ℕ) (g : NodeGets) → IsOfItsEpoch (node_env k s c epoch) (node_part s c) g → IsNoJob g → NodeReads k.n s
       → NodeReads k.n (node_deed k s c (node_rule (node_env k s c epoch) (node_part s c) g)).0
   node-reads s c epoch g at m h = deed-reads s c (node_rule (node_env k s c epoch) (node_part s c) g) (λ q other. h q)
       (rule-reads (node_env k s c epoch) s.disk (node_part s c) (h c) g at m)
@@ -177,7 +186,8 @@ module _ (k : NodeSetting) where
   hears-reads s Front c epoch (body.Offer parts) h = node-reads s c epoch (Offered parts) tt tt h
   hears-reads s Front c epoch (body.Forward bytes) h = node-reads s c epoch (Forwarded (decoded bytes c ToCluster)) tt tt h
   hears-reads s Front c epoch (body.Tag number nodes) h = node-reads s c epoch (Tagged number nodes) tt tt h
-  hears-reads s Front c epoch body.EndedAck h = node-reads s c epoch Acknowledged tt tt h
+  hears-reads s Front c epoch body.EndedAck h = node-reads s c epoch (Acknowledged false) tt tt h
+  hears-reads s Front c epoch body.Given h = node-reads s c epoch (Acknowledged true) tt tt h
   hears-reads s (Node from) c epoch (body.Fetch r path) h = fetched-reads s from c epoch r path (k.files path) h
   hears-reads s (Node from) c epoch (body.Content r bytes) h = node-reads s c epoch (Content from r) tt tt h
   hears-reads s _ c epoch _ h = h

@@ -2,16 +2,16 @@
 use Rattle.std.proofs.Common.{eq-eqb, ◌≡◌, ◌⊎◌, ◌-◌, ◌+◌, ◌==◌, ◌&&◌, nat_lt, ◌≤◌, ℕ, Bool, true, false, cond, List, [], ◌∷◌, length, is_some, Option, Some, None, Result, Ok, Err, refl, sym, ap, ◌∙◌, subst, arith, eqb-true, inl, inr}
 use Rattle.std.proofs.lemmas.Bool.{cond-true, and_parts, cond_both}
 use Rattle.std.specs.List.{find}
-use Rattle.lard_law_view.specs.Prelude.{Adopt, Asked, BackConn, BackRow, Conn, ControlBlock, Ending, EndpointParts, FilesAt, Kept, NodeDeed, NodeEnv, NodeGets, NodePart, Place, Progress, Said, Seen, SegFault, Stay, Tagged, Work, after_timer, awaits_ack, back_endpoint, back_held, both_of, came_for, come_by, come_on, come_progress, epoch_in, goes_on, gone, grown, here, is_ended, is_from, is_gone, is_tag_awaited, is_under, kept_after, named_paths, node_acknowledged, node_begins, node_content, node_does, node_fired_by, node_forwarded, node_heard_by, node_offered, node_read, node_read_by, node_rule, node_saying, node_tagged, node_timer, offer_answer, offered_by, on_segment, read_progress, reads_batch, reset_count, serving, serving_ready_of, serving_settled, spoken, state_of, staying, tagged, tagged_by, taken_sent, timed, with_work, without, work_of}
+use Rattle.lard_law_view.specs.Prelude.{Adopt, Asked, BackConn, BackRow, Conn, ControlBlock, Ending, EndpointParts, FilesAt, Kept, NodeDeed, NodeEnv, NodeGets, NodePart, Offered, Place, Progress, Said, Seen, SegFault, Stay, Tagged, Work, after_timer, awaits_ack, back_endpoint, back_held, both_of, came_for, come_by, come_on, come_progress, epoch_in, gives_back, goes_on, gone, grown, here, is_ended, is_from, is_gone, is_tag_awaited, is_under, kept_after, kept_refused, may_give_back, named_paths, node_begins, node_content, node_does, node_fired_by, node_forwarded, node_heard_by, node_offered, node_read, node_read_by, node_rule, node_tagged, node_timer, node_turns, offer_answer, offer_decision, offered_by, on_segment, parts_of, read_progress, reads_batch, reset_count, serving, serving_ready_of, serving_settled, spoken, state_of, staying, tagged, tagged_by, taken_sent, timed, told_kind, with_work, without, work_of}
 use Rattle.lard_base.specs.declared.place.TimerKind.TheVariants as kind
-use Rattle.lard_law_connections.specs.Kept.{AsksFor, contents_awaited, IsKeptByStage, NodeKeepsMessages, NodeRowKeeps, NodeStageKeeps, StayKeeps}
+use Rattle.lard_law_connections.specs.Kept.{AsksFor, HereKeeps, IsKeptByStage, NodeKeepsMessages, NodeRowKeeps, NodeStageKeeps, StayKeeps, TellsOver, contents_awaited}
 use Rattle.lard_law_connections.proofs.KeptBatches.{AreFetches, IsCalm, Loses, awaited-come, come-calm, come-loses, found-less, named-come, read-calm, read-loses, without-fetches}
 use Rattle.lard_law_connections.proofs.KeptStays.{Awaits, Follows, Starts, batch-state, goes-await, started-await, starts-all}
 use Rattle.lard_law_view.proofs.Parts.{put-each}
 use Rattle.lard_handoff_back.specs.declared.row.BackConn.TheVariants as back
 use Rattle.lard_handoff_back.specs.declared.table.Adopt.TheVariants.{New, Again, Stale, Refuse}
 use Rattle.lard_history.proofs.Each.{Each}
-use Rattle.lard_rules.proofs.NodeCases.{node-keeps, IsInItsEpoch, KeptByNode, IsHereWith, of-here, where-held, where-here}
+use Rattle.lard_rules.proofs.NodeCases.{IsHereWith, IsOfItsEpoch, KeptByNode, Turned, decision-new, node-keeps, of-here, where-held, where-here}
 use Rattle.lard_rules.specs.Node.{Drops, Says, Does}
 use Rattle.lard_rules.specs.declared.places.Ending.TheVariants as ending
 
@@ -38,6 +38,11 @@ abbrev pub DeedFollows : FilesAt → ℕ → ℕ → List (List ℕ) → NodeDee
 DeedFollows files e asks0 named0 Drops = Unit {0}
 DeedFollows files e asks0 named0 (Says ms) = Unit {0}
 DeedFollows files e asks0 named0 (Does given) = MayFollow files asks0 named0 given.0.stay × IsOfEpoch e given.0.row
+
+-- what an Offer leads to, where it is this to the node
+abbrev pub OfferFollows : FilesAt → ℕ → Adopt → NodeDeed → Type 0
+OfferFollows files e New d = DeedFollows files e 0 [] d
+OfferFollows files e _ d = Unit {0}
 
 -- nothing that is kept changes
 abbrev pub IsIdle : NodeDeed → Type 0
@@ -70,22 +75,46 @@ module _ (N : ℕ → Type 0) (env : NodeEnv) where
   abbrev pub PartKeeps : NodePart → Type 0
   PartKeeps p = NodeKeepsMessages N env.serve.files env.serve.c env.n p
 
+  -- a node that gave it back leaves
+  abbrev pub GaverLeaves : NodePart → Type 0
+  GaverLeaves p = env.leaving ≡ false → p.beside.returned ≡ None
+
   follows-by : (asks0 : ℕ) (named0 : List (List ℕ)) (o : Option Asked) (s : Stay) → Follows asks0 named0 o s.asks (named_paths files s.batch) → StayFollows files asks0 named0 s
   follows-by asks0 named0 None s h = inl h
   follows-by asks0 named0 (Some a) s h = inr h
 
   module _ (asks0 : ℕ) (named0 : List (List ℕ)) where
-    after-keeps : (part : NodePart) (k : Work) (e : Ending) → Awaits N env part.kept part.fetches asks0 named0 k → PartKeeps (kept_after env part k e) × MayFollow files asks0 named0 (kept_after env part k e).stay × IsOfEpoch env.epoch (kept_after env part k e).row
-    after-keeps part k (ending.Here b count) h = (
-      record { asks = h.0; fetches = h.1.each; order = h.1.order; few = h.3 },
+    after-keeps : (part : NodePart) (k : Work) (e : Ending) → part.beside.returned ≡ None → Awaits N env part.kept part.fetches asks0 named0 k → PartKeeps (kept_after env part k e) × MayFollow files asks0 named0 (kept_after env part k e).stay × IsOfEpoch env.epoch (kept_after env part k e).row
+    after-keeps part k (ending.Here b count) stays h = (
+      record { asks = h.0; fetches = h.1.each; order = h.1.order; few = h.3; not_back = stays },
       follows-by asks0 named0 k.asked (record { served = count; batch = k.batch; asks = k.asks }) h.2,
       refl,
     )
-    after-keeps part k (ending.Over last) h = (((last, reset_count k.service.over, refl), refl), tt, refl)
+    after-keeps part k (ending.Over last) stays h = (
+      (subst (λ (o : Option ℕ). TellsOver env.serve.c env.epoch o (kept_after env part k (ending.Over last)).kept) (sym stays) (last, reset_count k.service.over, refl), refl),
+      tt,
+      refl,
+    )
 
-    goes-keep : (part : NodePart) (before : List (Place × List ℕ)) (k : Work) → Awaits N env part.kept part.fetches asks0 named0 k
-        → Keeps (with_work env part before (goes_on env k)) × DeedFollows files env.epoch asks0 named0 (with_work env part before (goes_on env k))
-    goes-keep part before k h = let all = after-keeps part (goes_on env k) (serving_settled env.serve (goes_on env k).service).0 (goes-await N env part.kept part.fetches asks0 named0 k h) in (all.0, (all.1, all.2))
+    -- what a turn leaves, and how it goes on
+    abbrev KeepsOn : NodeDeed → Type 0
+    KeepsOn d = Keeps d × DeedFollows files env.epoch asks0 named0 d
+
+    rests-keep : (part : NodePart) (before : List (Place × List ℕ)) (k : Work) → part.beside.returned ≡ None → Awaits N env part.kept part.fetches asks0 named0 k → KeepsOn (with_work env part before (goes_on env k))
+    rests-keep part before k stays h =
+        let all = after-keeps part (goes_on env k) (serving_settled env.serve (goes_on env k).service).0 stays (goes-await N env part.kept part.fetches asks0 named0 k h) in (all.0, (all.1, all.2))
+
+    -- what goes back is told by its Give
+    back-keeps : (part : NodePart) (before : List (Place × List ℕ)) (k : Work) → KeepsOn (gives_back env part before k)
+    back-keeps part before k = (((parts_of k.service.block k.service.count, refl, refl), refl), (tt, refl))
+
+    goes-keep : (part : NodePart) (before : List (Place × List ℕ)) (k : Work) → part.beside.returned ≡ None → Awaits N env part.kept part.fetches asks0 named0 k → KeepsOn (node_turns env part before (goes_on env k))
+    goes-keep part before k stays h =
+        let w : Work = goes_on env k in
+        cond_both (may_give_back env w) (gives_back env part before w) (with_work env part before w) KeepsOn (λ back. back-keeps part before w) (λ rests. rests-keep part before k stays h)
+
+    turns-keep : (part : NodePart) (before : List (Place × List ℕ)) (k : Work) → part.beside.returned ≡ None → Awaits N env part.kept part.fetches asks0 named0 k → Turned Keeps env part before (goes_on env k)
+    turns-keep part before k stays h = (λ rests. (rests-keep part before k stays h).0, λ back. (back-keeps part before (goes_on env k)).0)
 
   module _ (p : NodePart) (h : PartKeeps p) where
     abbrev RowKeeps : Option BackRow → Type 0
@@ -103,7 +132,7 @@ module _ (N : ℕ → Type 0) (env : NodeEnv) where
         let k : StayKeeps N env.serve.files env.serve.c at.row.epoch.0 env.n (record p { stay = Some s }) s =
         of-here (λ q o. NodeRowKeeps N env.serve.files env.serve.c env.n (record p { stay = o }) q) env.epoch p b s at h in
         subst (λ (e : ℕ). StayKeeps N env.serve.files env.serve.c e env.n p s) at.epoch_is
-        (record { asks = k.asks; fetches = k.fetches; order = k.order; few = k.few })
+        (record { asks = k.asks; fetches = k.fetches; order = k.order; few = k.few; not_back = k.not_back })
 
     module _ (P : Option (ControlBlock × Stay) → Type 0) (none : P None) (some : (y : ControlBlock × Stay) → IsHere y → P (Some y)) where
       at-epoch : P (here env.epoch p)
@@ -131,7 +160,7 @@ module _ (N : ℕ → Type 0) (env : NodeEnv) where
     pub forwarded-keeps : (r : Result Said SegFault) → Goes (here env.epoch p) (node_forwarded env p r)
     forwarded-keeps (Err fault) = (tt, dropped (here env.epoch p))
     forwarded-keeps (Ok s) = at-epoch (λ o. Goes o (node_heard_by env p (Ok s) o)) (tt, tt)
-        (λ y k. goes-keep y.1.asks (named_of y.1) p [] (work_of (on_segment y.0 s).1 y.1) (begun (on_segment y.0 s).1 y.1 k))
+        (λ y k. goes-keep y.1.asks (named_of y.1) p [] (work_of (on_segment y.0 s).1 y.1) k.not_back (begun (on_segment y.0 s).1 y.1 k))
 
     pub tagged-keeps : (number : ℕ) (nodes : List ℕ) → ((y : ControlBlock × Stay) → here env.epoch p ≡ Some y → y.1.asks ≡ number → Each N nodes) → Goes (here env.epoch p) (node_tagged env p number nodes)
     tagged-keeps number nodes all = at-epoch (λ o. (here env.epoch p ≡ o → Goes o (tagged_by env number nodes p o))) (λ e. (tt, tt))
@@ -139,7 +168,7 @@ module _ (N : ℕ → Type 0) (env : NodeEnv) where
         let part : NodePart = record p { kept = without kind.Ask 0 p.kept } in
         let w : Work = work_of y.0 y.1 in
         let named : ℕ = length (named_paths files y.1.batch) in
-        cond_both (is_tag_awaited env number nodes p y.1) (with_work env part [] (goes_on env (tagged env nodes w))) Drops (Goes (Some y))
+        cond_both (is_tag_awaited env number nodes p y.1) (node_turns env part [] (goes_on env (tagged env nodes w))) Drops (Goes (Some y))
         (λ t.
         let its = and_parts (y.1.asks == number) (length nodes == named)
         (and_parts (is_some (find (is_under kind.Ask 0) p.kept)) (y.1.asks == number && length nodes == named) t).1 in
@@ -147,7 +176,7 @@ module _ (N : ℕ → Type 0) (env : NodeEnv) where
         let count : length nodes ≡ named = eqb-true (length nodes) named its.1 in
         let left : without kind.Ask 0 p.kept ≡ [] = asks-left env.serve.c env.epoch y.1.asks (named_paths files y.1.batch) p.kept k.asks in
         let first : Starts N env part.kept p.fetches y.1.asks (named_of y.1) (contents_awaited y.1.batch) (record w { batch = [] }) = (refl, record { each = k.fetches; order = k.order }, refl, refl, let few = k.few in omega (arith, few)) in
-        goes-keep y.1.asks (named_of y.1) part [] (tagged env nodes w)
+        goes-keep y.1.asks (named_of y.1) part [] (tagged env nodes w) k.not_back
         (started-await N env part.kept p.fetches y.1.asks (named_of y.1) (tagged env nodes w) left (starts-all N env part.kept p.fetches y.1.asks (named_of y.1) nodes (all y is same) w count first)))
         (λ t. (tt, tt)))
         refl
@@ -175,40 +204,44 @@ module _ (N : ℕ → Type 0) (env : NodeEnv) where
         (λ y k.
         let part : NodePart = record p { fetches = without kind.Fetch r p.fetches } in
         let w : Work = work_of y.0 y.1 in
-        cond_both (is_from from env.epoch (find (is_under kind.Fetch r) p.fetches)) (with_work env part [] (goes_on env (came_for (come_progress from) r w))) Drops (Goes (Some y))
-        (λ t. goes-keep y.1.asks (named_of y.1) part [] (came_for (come_progress from) r w)
+        cond_both (is_from from env.epoch (find (is_under kind.Fetch r) p.fetches)) (node_turns env part [] (goes_on env (came_for (come_progress from) r w))) Drops (Goes (Some y))
+        (λ t. goes-keep y.1.asks (named_of y.1) part [] (came_for (come_progress from) r w) k.not_back
         (come-awaits part.fetches 1 (come_progress from) (come-calm files from) (come-loses from) r y.0 y.1 k
         (without-fetches N env.serve.files env.serve.c env.epoch env.n r p.fetches (record { each = k.fetches; order = k.order })) (found-less kind.Fetch r from env.epoch p.fetches t)))
         (λ t. (tt, tt)))
 
     pub read-keeps : (r : ℕ) → Goes (here env.epoch p) (node_read env p r)
     read-keeps r = at-epoch (λ o. Goes o (node_read_by env r p o)) (tt, tt)
-        (λ y k. goes-keep y.1.asks (named_of y.1) p [] (came_for read_progress r (work_of y.0 y.1))
+        (λ y k. goes-keep y.1.asks (named_of y.1) p [] (came_for read_progress r (work_of y.0 y.1)) k.not_back
         (come-awaits p.fetches 0 read_progress (read-calm files) read-loses r y.0 y.1 k (record { each = k.fetches; order = k.order }) (omega arith)))
 
     pub timer-keeps : env.epoch ≡ epoch_in p → Goes (both_of (back_endpoint p.row) p.stay) (node_timer env p)
     timer-keeps at = at-endpoint (λ o. Goes o (node_fired_by env p o)) (tt, tt)
         (λ y k.
-        let all = after-keeps y.1.asks (named_of y.1) p (work_of (after_timer y.0) y.1) (spoken env.serve (serving (after_timer y.0) y.1.served []) (serving_ready_of env.serve (after_timer y.0) (timed y.0))).0 (begun (after_timer y.0) y.1 k) in
+        let all = after-keeps y.1.asks (named_of y.1) p (work_of (after_timer y.0) y.1) (spoken env.serve (serving (after_timer y.0) y.1.served []) (serving_ready_of env.serve (after_timer y.0) (timed y.0))).0 k.not_back (begun (after_timer y.0) y.1 k) in
         (all.0, (all.1, all.2)))
         at
 
     -- ---- its end is acknowledged
 
-    told-ended : (e : ℕ) (d : BackConn) → is_ended d ≡ true → StageKeeps e d → (without kind.Ended 0 p.kept ≡ []) × (p.fetches ≡ [])
-    told-ended e (back.Here b) is k = let no : false ≡ true = is in absurd cc
-    told-ended e back.Out is k = absurd k
-    told-ended e back.Ended is k = (ap (without kind.Ended 0) k.0.2, k.1)
-    told-ended e back.Gone is k = let no : false ≡ true = is in absurd cc
+    module _ (returns : Bool) (was : is_some p.beside.returned ≡ returns) where
+      abbrev left : List Kept
+      left = without (told_kind returns) 0 p.kept
 
-    gone-keeps : (o : Option BackRow) → RowKeeps o → awaits_ack env.epoch o ≡ true → NodeRowKeeps N env.serve.files env.serve.c env.n (record p { row = gone p.row; kept = without kind.Ended 0 p.kept }) (gone o)
-    gone-keeps None k t = let no : false ≡ true = t in absurd cc
-    gone-keeps (Some row) k t = told-ended row.epoch.0 row.stage (and_parts (row.epoch.0 == env.epoch) (is_ended row.stage) t).1 k
+      -- without what told that it is over, none is kept
+      over-left : (e : ℕ) (o : Option ℕ) → is_some o ≡ returns → TellsOver env.serve.c e o p.kept → left ≡ []
+      over-left e None is k = subst (λ (b : Bool). without (told_kind b) 0 p.kept ≡ []) is (ap (without kind.Ended 0) k.2)
+      over-left e (Some served) is k = subst (λ (b : Bool). without (told_kind b) 0 p.kept ≡ []) is (ap (without kind.Give 0) k.1)
 
-    pub acknowledged-keeps : Keeps (node_acknowledged env p)
-    acknowledged-keeps =
-        let q : NodePart = record p { row = gone p.row; kept = without kind.Ended 0 p.kept } in
-        cond_both (awaits_ack env.epoch p.row) (Does (q, node_saying [])) Drops Keeps (λ t. gone-keeps p.row h t) (λ t. tt)
+      told-over : (e : ℕ) (d : BackConn) → is_ended d ≡ true → StageKeeps e d → (left ≡ []) × (p.fetches ≡ [])
+      told-over e (back.Here b) is k = let no : false ≡ true = is in absurd cc
+      told-over e back.Out is k = absurd k
+      told-over e back.Ended is k = (over-left e p.beside.returned was k.0, k.1)
+      told-over e back.Gone is k = let no : false ≡ true = is in absurd cc
+
+      gone-keeps : (o : Option BackRow) → RowKeeps o → awaits_ack env.epoch o ≡ true → NodeRowKeeps N env.serve.files env.serve.c env.n (record p { row = gone p.row; kept = left }) (gone o)
+      gone-keeps None k t = let no : false ≡ true = t in absurd cc
+      gone-keeps (Some row) k t = told-over row.epoch.0 row.stage (and_parts (row.epoch.0 == env.epoch) (is_ended row.stage) t).1 k
 
     -- ---- an Offer
 
@@ -230,55 +263,78 @@ module _ (N : ℕ → Type 0) (env : NodeEnv) where
       go true e = let no : Again ≡ New = e in absurd cc
       go false e = later (nat_lt row.epoch.0 env.epoch && is_gone row.stage) refl e
 
-    offered-by : (parts : EndpointParts) (a : Adopt) → (a ≡ New → (p.kept ≡ []) × (p.fetches ≡ [])) → Keeps (offered_by env parts p a) × DeedFollows files env.epoch 0 [] (offered_by env parts p a)
-    offered-by parts New none =
-        let empty = none refl in
-        goes-keep 0 [] p (taken_sent env) (state_of (reads_batch env true (node_begins env parts)))
+    begins-keep : (parts : EndpointParts) → offer_answer env.epoch p.row ≡ New → p.beside.returned ≡ None → KeepsOn 0 [] (offered_by env parts p New)
+    begins-keep parts new stays =
+        let empty = new-none p.row h new in
+        rests-keep 0 [] p (taken_sent env) (state_of (reads_batch env true (node_begins env parts))) stays
         (batch-state N env p.kept p.fetches 0 [] true (node_begins env parts) refl
         (empty.0, subst (λ (ks : List Kept). AreFetches N env.serve.files env.serve.c env.epoch env.n ks) (sym empty.1) (record { each = tt; order = tt }), (refl, inl refl), (let none = ap (λ (ks : List Kept). length ks) empty.1 in omega (arith, none))))
-    offered-by parts Again none = (tt, tt)
-    offered-by parts Stale none = (tt, tt)
-    offered-by parts Refuse none = (tt, tt)
 
-    pub offered-keeps : (parts : EndpointParts) → Keeps (node_offered env p parts) × DeedFollows files env.epoch 0 [] (node_offered env p parts)
-    offered-keeps parts = offered-by parts (offer_answer env.epoch p.row) (new-none p.row h)
+    -- that it is refused changes nothing of what is kept
+    refused-keeps : PartKeeps (kept_refused env p)
+    refused-keeps = by-row p.row h where
+      by-stay : (e : ℕ) (o : Option Stay) → HereKeeps N env.serve.files env.serve.c e env.n p o → HereKeeps N env.serve.files env.serve.c e env.n (kept_refused env p) o
+      by-stay e None k = k
+      by-stay e (Some s) k = record { asks = k.asks; fetches = k.fetches; order = k.order; few = k.few; not_back = k.not_back }
+
+      by-stage : (e : ℕ) (d : BackConn) → StageKeeps e d → NodeStageKeeps N env.serve.files env.serve.c e env.n (kept_refused env p) d
+      by-stage e (back.Here b) k = by-stay e p.stay k
+      by-stage e back.Out k = k
+      by-stage e back.Ended k = k
+      by-stage e back.Gone k = k
+
+      by-row : (o : Option BackRow) → RowKeeps o → NodeRowKeeps N env.serve.files env.serve.c env.n (kept_refused env p) o
+      by-row None k = k
+      by-row (Some row) k = by-stage row.epoch.0 row.stage k
+
+    offered-by : (parts : EndpointParts) → GaverLeaves p → (a : Adopt) → offer_decision env.leaving env.epoch p.row p.beside ≡ a → Keeps (offered_by env parts p a) × OfferFollows files env.epoch a (offered_by env parts p a)
+    offered-by parts leaves New is = let new = decision-new env.leaving env.epoch p.row p.beside is in begins-keep parts new.0 (leaves new.1)
+    offered-by parts leaves Again is = (tt, tt)
+    offered-by parts leaves Stale is = (tt, tt)
+    offered-by parts leaves Refuse is = (refused-keeps, tt)
+
+    pub offered-keeps : (parts : EndpointParts) → GaverLeaves p → Keeps (node_offered env p parts) × OfferFollows files env.epoch (offer_decision env.leaving env.epoch p.row p.beside) (node_offered env p parts)
+    offered-keeps parts leaves = offered-by parts leaves (offer_decision env.leaving env.epoch p.row p.beside) refl
 
     -- ---- whatever comes
 
-    abbrev pub MayTag : NodeGets → Type 0
-    MayTag (Tagged number nodes) = (b : ControlBlock) (s : Stay) → IsHereWith env.epoch p b s → s.asks ≡ number → Each N nodes
-    MayTag _ = Unit {0}
+    abbrev pub MayCome : NodeGets → Type 0
+    MayCome (Offered parts) = GaverLeaves p
+    MayCome (Tagged number nodes) = (b : ControlBlock) (s : Stay) → IsHereWith env.epoch p b s → s.asks ≡ number → Each N nodes
+    MayCome _ = Unit {0}
 
-    by-rules : KeptByNode env p MayTag Keeps
+    by-rules : KeptByNode env p MayCome Keeps
     by-rules = record {
       drops = tt;
-      hears = λ said b s m at. (goes-keep s.asks (named_of s) p [] (work_of (on_segment b said).1 s) (begun (on_segment b said).1 s (stays b s at))).0;
+      hears = λ said b s m at. let k = stays b s at in turns-keep s.asks (named_of s) p [] (work_of (on_segment b said).1 s) k.not_back (begun (on_segment b said).1 s k);
       tags = λ number nodes b s m at asked same count.
           let k = stays b s at in
           let part : NodePart = record p { kept = without kind.Ask 0 p.kept } in
           let left : without kind.Ask 0 p.kept ≡ [] = asks-left env.serve.c env.epoch s.asks (named_paths files s.batch) p.kept k.asks in
           let first : Starts N env part.kept p.fetches s.asks (named_of s) (contents_awaited s.batch) (record (work_of b s) { batch = [] }) = (refl, record { each = k.fetches; order = k.order }, refl, refl, let few = k.few in omega (arith, few)) in
-          (goes-keep s.asks (named_of s) part [] (tagged env nodes (work_of b s))
-          (started-await N env part.kept p.fetches s.asks (named_of s) (tagged env nodes (work_of b s)) left (starts-all N env part.kept p.fetches s.asks (named_of s) nodes (m b s at same) (work_of b s) count first))).0;
+          turns-keep s.asks (named_of s) part [] (tagged env nodes (work_of b s)) k.not_back
+          (started-await N env part.kept p.fetches s.asks (named_of s) (tagged env nodes (work_of b s)) left (starts-all N env part.kept p.fetches s.asks (named_of s) nodes (m b s at same) (work_of b s) count first));
       comes = λ from r b s m at wanted.
           let k = stays b s at in
           let part : NodePart = record p { fetches = without kind.Fetch r p.fetches } in
-          (goes-keep s.asks (named_of s) part [] (came_for (come_progress from) r (work_of b s))
+          turns-keep s.asks (named_of s) part [] (came_for (come_progress from) r (work_of b s)) k.not_back
           (come-awaits part.fetches 1 (come_progress from) (come-calm files from) (come-loses from) r b s k
-          (without-fetches N env.serve.files env.serve.c env.epoch env.n r p.fetches (record { each = k.fetches; order = k.order })) (found-less kind.Fetch r from env.epoch p.fetches wanted))).0;
+          (without-fetches N env.serve.files env.serve.c env.epoch env.n r p.fetches (record { each = k.fetches; order = k.order })) (found-less kind.Fetch r from env.epoch p.fetches wanted));
       reads = λ r path b s m at.
           let k = stays b s at in
-          (goes-keep s.asks (named_of s) p [] (came_for read_progress r (work_of b s))
-          (come-awaits p.fetches 0 read_progress (read-calm files) read-loses r b s k (record { each = k.fetches; order = k.order }) (omega arith))).0;
-      begins = λ parts m new. (offered-by parts New (λ e. new-none p.row h new)).0;
+          turns-keep s.asks (named_of s) p [] (came_for read_progress r (work_of b s)) k.not_back
+          (come-awaits p.fetches 0 read_progress (read-calm files) read-loses r b s k (record { each = k.fetches; order = k.order }) (omega arith));
+      begins = λ parts m new may. (begins-keep parts new (m may.0)).0;
       takes_again = λ parts m again. tt;
-      fires = λ b s m at. (after-keeps s.asks (named_of s) p (work_of (after_timer b) s) (spoken env.serve (serving (after_timer b) s.served []) (serving_ready_of env.serve (after_timer b) (timed b))).0 (begun (after_timer b) s (stays b s at))).0;
+      refuses = λ parts m is. refused-keeps;
+      fires = λ b s m at. let k = stays b s at in (after-keeps s.asks (named_of s) p (work_of (after_timer b) s) (spoken env.serve (serving (after_timer b) s.served []) (serving_ready_of env.serve (after_timer b) (timed b))).0 k.not_back (begun (after_timer b) s k)).0;
       resends = λ m none. tt;
-      ends = λ m told. gone-keeps p.row h told;
+      ends = λ returns m told was. gone-keeps returns was p.row h told;
+      leaves = λ b s m at back. (back-keeps s.asks (named_of s) p [] (work_of b s)).0;
     }
 
-    pub rule-keeps : (g : NodeGets) → IsInItsEpoch env p g → MayTag g → Keeps (node_rule env p g)
-    rule-keeps g at m = node-keeps env p MayTag Keeps by-rules g at m
+    pub rule-keeps : (g : NodeGets) → IsOfItsEpoch env p g → MayCome g → Keeps (node_rule env p g)
+    rule-keeps g at m = node-keeps env p MayCome Keeps by-rules g at m
 
 -- ---- its move
 

@@ -128,6 +128,7 @@ module _ (N : ℕ → Type 0) (env : NodeEnv) (kept0 fetches0 : List Kept) (asks
     reads = λ k none may a. batch-awaits false k none a;
     serves = λ way e rest k may first is a. serves-await way e rest k first is a;
     stops = λ k may a. a;
+    holds = λ k leaves none may a. a;
   }) w h
 
   -- ---- a Tag comes: no request is without a node any more

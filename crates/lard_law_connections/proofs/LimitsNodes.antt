@@ -1,11 +1,11 @@
 -- What a node does leaves a connection counted.
 use Rattle.std.proofs.Common.{◌≡◌, ◌≢◌, ◌⊎◌, ◌≤◌, ◌-◌, ℕ, true, List, [], map, Option, Some, None, inl, inr, ⊎_elim, refl, sym, ◌∙◌, subst, arith}
-use Rattle.lard_law_view.specs.Prelude.{BackRow, Conn, ControlBlock, Ending, EndpointParts, Front, FrontConn, FrontRow, IsNodeEnv, Move, Node, NodeDeed, NodeEnv, NodeGets, NodePart, Offered, Place, Progress, Rec, Seen, ServeEnv, Setting, Stay, Turn, Work, after_timer, again_sent, came_for, come_progress, consuming, goes_on, gone, kept_after, letter, named_records, node_begins, node_does, node_put_back, node_rule, node_saying, offer_answer, on_segment, read_progress, reads_batch, serving, serving_ready_of, serving_settled, spoken, state_of, tagged, taken_sent, tale_at, timed, turn_by, with_work, without, work_of}
+use Rattle.lard_law_view.specs.Prelude.{BackRow, Conn, ControlBlock, Ending, EndpointParts, Front, FrontConn, FrontRow, IsNodeEnv, Move, Node, NodeDeed, NodeEnv, NodeGets, NodePart, Offered, Place, Progress, Rec, Seen, ServeEnv, Setting, Stay, Turn, Work, after_timer, again_sent, came_for, come_progress, consuming, gives_back, goes_on, gone, kept_after, kept_back, kept_refused, letter, named_records, node_begins, node_does, node_put_back, node_rule, node_saying, offer_answer, on_segment, read_progress, reads_batch, refused_sent, serving, serving_ready_of, serving_settled, spoken, state_of, tagged, taken_sent, tale_at, timed, told_kind, turn_back, turn_by, with_work, without, work_of}
 use Rattle.lard_base.specs.declared.place.TimerKind.TheVariants as timer
 use Rattle.lard_law_connections.specs.LimitsCounts.{BackCounts, IsWithinStream, FrontCounts, FrontStageCounts, LetterCounts, Served, served_by_tale}
 use Rattle.lard_law_connections.proofs.LimitsFronts.{offered-now, past-counts}
 use Rattle.lard_law_connections.proofs.LimitsMoves.{IsLimited, MoveCounts, idle-counts, node-letters}
-use Rattle.lard_law_connections.proofs.LimitsRows.{IsMute, IsMuteSeen, after_all, named-counts}
+use Rattle.lard_law_connections.proofs.LimitsRows.{CountsBy, IsMute, IsMuteSeen, after_all, named-counts}
 use Rattle.lard_law_connections.proofs.LimitsServing.{EndCounts, IsServing, TurnCounts, answered-serving, begins-serving, ended-serving, noted-mute, reads-within, reblocked, settled-counts, spoken-counts}
 use Rattle.lard_law_connections.proofs.LimitsWorking.{IsStart, KeptByServing, batch-state, came-so, goes-so, tagged-so}
 use Rattle.lard_law_connections.specs.Places.{HasEnded, IsComing, IsDecided, IsOffered, IsPast, IsThere, Offers, OthersArePast, Owning, Sits, StageSits, owning}
@@ -21,8 +21,7 @@ use Rattle.lard_handoff_back.specs.declared.table.Adopt.TheVariants.{New}
 use Rattle.lard_handoff_front.specs.declared.row.FrontConn.TheVariants as stage
 use Rattle.lard_history.proofs.Each.{Each, Each-append, Each-weaker}
 use Rattle.lard_journal.specs.declared.rec.Rec.TheVariants as rec
-use Rattle.lard_message.specs.declared.message.Body.TheVariants as body
-use Rattle.lard_rules.proofs.NodeCases.{IsHereWith, IsInItsEpoch, KeptByNode, node-keeps, of-here}
+use Rattle.lard_rules.proofs.NodeCases.{IsHereWith, IsOfItsEpoch, KeptByNode, Turned, node-keeps, of-here}
 use Rattle.lard_rules.proofs.Totals.{segment-many, timer-many}
 use Rattle.lard_rules.specs.Node.{Drops, Says, Does}
 use Rattle.lard_rules.specs.declared.places.Ending.TheVariants as ending
@@ -152,12 +151,38 @@ module _ (k : Setting) (x : Conn) (at_place : IsPlaced x) (h : IsLimited k.strea
               (node-letters k.stream then v.part n given.1.segments) (node-letters k.stream then v.part n (turn_by env before work given).messages);
         }
 
+    -- one that goes back
+    backs-limited : IsHere n env.epoch → (part : NodePart) (before : List (Place × List ℕ)) (work : Work) → IsServing env.serve w work.service → Stays (gives_back env part before work)
+    backs-limited it part before work serving =
+        let q : NodePart = kept_back env part work in
+        let v : Move = node_does x n heads (gives_back env part before work) in
+        let told : CountsBy k.stream x.c w work.service.notes =
+        subst (λ (c : ℕ). CountsBy k.stream c w work.service.notes) is.number (subst (λ (m : ℕ). CountsBy m env.serve.c w work.service.notes) is.stream serving.told) in
+        let called = named-counts k.stream x.c w work.service.notes told in
+        let then : Served = after_all w (named_records work.service.notes) in
+        record {
+          heads = seen;
+          notes = called.0;
+          front = it.front then;
+          nodes = put-each nodes n q (λ m r. BackCounts k.stream then r.row) tt (λ m other. it.others then m other);
+          old = inr (λ m d offered.
+              let o = it.offered m d offered in
+              inl (subst (λ (j : ℕ). IsDecided d (node_put_back nodes n q j).row) (sym o.0) (subst (λ (r : NodePart). IsDecided d r.row) (sym (put-same nodes n q)) o.1)));
+          letters = node-letters k.stream then v.part n (turn_back env before work).messages;
+        }
+
     goes-limited : IsHere n env.epoch → (part : NodePart) (before : List (Place × List ℕ)) (work : Work) → IsServing env.serve w work.service
         → Stays (with_work env part before (goes_on env work))
     goes-limited it part before work serving =
         let done : Work = goes_on env work in
         turn-limited it part before done (serving_settled env.serve done.service)
         (settled-counts env.serve w done.service (goes-so env (IsServing env.serve w) (stay-counts env.serve w) work serving))
+
+    turned-limited : IsHere n env.epoch → (part : NodePart) (work : Work) → IsServing env.serve w work.service → Turned Stays env part [] (goes_on env work)
+    turned-limited it part work serving = (
+      λ rests. goes-limited it part [] work serving,
+      λ back. backs-limited it part [] (goes_on env work) (goes-so env (IsServing env.serve w) (stay-counts env.serve w) work serving),
+    )
 
     -- with the endpoint that it has
     begins-here : (b d : ControlBlock) (count : ℕ) → d.send.total ≡ b.send.total → IsWithinStream k.stream w b.send.total → IsServing env.serve w (serving d count [])
@@ -225,20 +250,29 @@ module _ (k : Setting) (x : Conn) (at_place : IsPlaced x) (h : IsLimited k.strea
       drops = dropped;
       hears = λ said b s m at.
           let it = has-it n env.epoch b s at in
-          goes-limited it.0 ours [] (work_of (on_segment b said).1 s)
+          turned-limited it.0 ours (work_of (on_segment b said).1 s)
           (begins-here b (on_segment b said).1 s.served (segment-many b said) it.1);
       tags = λ number tags b s m at asked same count.
           let it = has-it n env.epoch b s at in
-          goes-limited it.0 (record ours { kept = without timer.Ask 0 ours.kept }) [] (tagged env tags (work_of b s))
+          turned-limited it.0 (record ours { kept = without timer.Ask 0 ours.kept }) (tagged env tags (work_of b s))
           (tagged-so env (IsServing env.serve w) (stay-counts env.serve w) tags (work_of b s) (begins-here b b s.served refl it.1));
       comes = λ from r b s m at wanted.
           let it = has-it n env.epoch b s at in
-          goes-limited it.0 (record ours { fetches = without timer.Fetch r ours.fetches }) [] (came_for (come_progress from) r (work_of b s))
+          turned-limited it.0 (record ours { fetches = without timer.Fetch r ours.fetches }) (came_for (come_progress from) r (work_of b s))
           (came-serving (come_progress from) r b s it.1);
       reads = λ r path b s m at.
-          let it = has-it n env.epoch b s at in goes-limited it.0 ours [] (came_for read_progress r (work_of b s)) (came-serving read_progress r b s it.1);
-      begins = begins-limited;
+          let it = has-it n env.epoch b s at in turned-limited it.0 ours (came_for read_progress r (work_of b s)) (came-serving read_progress r b s it.1);
+      begins = λ parts m new may. begins-limited parts m new;
       takes_again = λ parts m again. says (taken_sent env);
+      refuses = λ parts m refuse.
+          let q : NodePart = kept_refused env ours in
+          idle-counts k.stream x (node_does x n heads (Does (q, node_saying (refused_sent env)))) (record {
+            heads = seen;
+            notes = tt;
+            front = h.counted.front;
+            nodes = put-each nodes n q (λ m r. BackCounts k.stream w r.row) (h.counted.nodes n) (λ m other. h.counted.nodes m);
+            letters = node-letters k.stream w (node_does x n heads (Does (q, node_saying (refused_sent env)))).part n (refused_sent env);
+          });
       fires = λ b s m at.
           let it = has-it n env.epoch b s at in
           let before : List (Place × List ℕ) = serving_ready_of env.serve (after_timer b) (timed b) in
@@ -246,8 +280,8 @@ module _ (k : Setting) (x : Conn) (at_place : IsPlaced x) (h : IsLimited k.strea
           (spoken-counts env.serve w (serving (after_timer b) s.served []) before refl (ready-to env.serve (after_timer b) (timed b))
           (begins-here b (after_timer b) s.served (timer-many b) it.1));
       resends = λ m none. says (again_sent ours);
-      ends = λ m told.
-          let q : NodePart = record ours { row = gone ours.row; kept = without timer.Ended 0 ours.kept } in
+      ends = λ back m told was.
+          let q : NodePart = record ours { row = gone ours.row; kept = without (told_kind back) 0 ours.kept } in
           idle-counts k.stream x (node_does x n heads (Does (q, node_saying []))) (record {
             heads = seen;
             notes = tt;
@@ -255,7 +289,9 @@ module _ (k : Setting) (x : Conn) (at_place : IsPlaced x) (h : IsLimited k.strea
             nodes = put-each nodes n q (λ m r. BackCounts k.stream w r.row) (gone-counts ours.row) (λ m other. h.counted.nodes m);
             letters = tt;
           });
+      leaves = λ b s m at back.
+          let it = has-it n env.epoch b s at in backs-limited it.0 ours [] (work_of b s) (begins-here b b s.served refl it.1);
     }
 
-    pub rule-limited : (g : NodeGets) → IsInItsEpoch env ours g → NodeComes x n epoch heads g → Stays (node_rule env ours g)
+    pub rule-limited : (g : NodeGets) → IsOfItsEpoch env ours g → NodeComes x n epoch heads g → Stays (node_rule env ours g)
     rule-limited g at comes = node-keeps env ours Counted Stays rules_limited g at (counted-of g comes)

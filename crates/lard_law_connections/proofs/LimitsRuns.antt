@@ -1,6 +1,6 @@
 -- The reset law in every run.
-use Rattle.std.proofs.Common.{◌≤◌, ◌^◌, ℕ, List, refl, arith}
-use Rattle.lard_law_view.specs.Prelude.{ClientRules, Completed, Config, Conn, FrontRules, IsLaw, MayReset, MayRestOn, Move, Node, NodeGets, NodeRules, OfEach, Rules, Setting, client_begins, client_injects, client_opens, client_rule, conn, grown, inject_seen, nothing_said, packet_seen, setting, stands, with_leaving}
+use Rattle.std.proofs.Common.{◌≤◌, ◌^◌, ℕ, List, refl, arith, ◌≡◌, Ok}
+use Rattle.lard_law_view.specs.Prelude.{ClientRules, Completed, Config, Conn, FrontRules, IsLaw, MayReset, MayRestOn, Move, Node, NodeGets, NodeRules, OfEach, Rules, Setting, client_begins, client_injects, client_opens, client_rule, config_check, conn, grown, inject_seen, nothing_said, packet_seen, setting, stands, with_leaving}
 use Rattle.lard_law_view.proofs.EachFront.{each-front, of-front}
 use Rattle.lard_history.proofs.Each.{Each}
 use Rattle.lard_law_view.proofs.EachClient.{client_seen, each-client, of-client}
@@ -22,6 +22,7 @@ use Rattle.lard_law_view.proofs.Guarded.{both, weaker}
 use Rattle.lard_law_view.proofs.InSteps.{carried-records}
 use Rattle.lard_law_view.proofs.RowLists.{MayBeSeen}
 use Rattle.lard_law_view.proofs.PlaceTurns.{injects-turn, opens-turn, rule-turn}
+use Rattle.lard_base.proofs.Usable.{usable}
 
 -- where it sits is known, and that the front end keeps an Offer while it is on its way
 abbrev IsGiven : Conn → Type 0
@@ -57,7 +58,7 @@ module _ (k : Setting) (most : k.stream ≤ 2 ^ 30) where
   nodes : NodeRules k Counting
   nodes = each-node k Counting (record {
     does = λ x n epoch env heads g is at comes m h. read-first x n g _
-        (rule-limited k x m.given.0 h n epoch env is heads (heads-of IsMuteSeen (λ l. tt) (λ i c. tt) x n epoch heads g comes) g at comes);
+        (rule-limited k x m.given.0 h n epoch env is heads (heads-of IsMuteSeen (λ l. tt) (λ i c. tt) x n epoch heads g comes) g at.0 comes);
     aside = λ x n a may m h. by-aside x n a h;
   })
 
@@ -84,15 +85,15 @@ module _ (k : Setting) (most : k.stream ≤ 2 ^ 30) where
         (both k (λ x v. IsFine x v × Owed x v) Counting (both k IsFine Owed (fine k) (owing k IsGiven)) counting);
   }
 
-each-limited : (config : Config) (files : List (List ℕ × List ℕ)) → config.stream ≤ 2 ^ 30 → OfEach config files (IsLimited config.stream)
-each-limited config files most = carried config files IsGiven (IsLimited config.stream) (λ l. limits-law (with_leaving (setting config files) l) most)
-    (λ m r q. (each-placed config files m r q, (connections-are-kept config files m r q).front))
+each-limited : (config : Config) (files : List (List ℕ × List ℕ)) → config_check config ≡ Ok tt → OfEach config files (IsLimited config.stream)
+each-limited config files checked = carried config files IsGiven (IsLimited config.stream) (λ l. limits-law (with_leaving (setting config files) l) (usable config checked).stream)
+    (λ m r q. (each-placed config files checked m r q, (connections-are-kept config files m r q).front))
 
 pub connections-counted : ConnectionsAreCounted
-connections-counted config files most m r q = (each-limited config files most m r q).counted
+connections-counted config files checked m r q = (each-limited config files checked m r q).counted
 
 -- Each record of a connection may stand among its own, so each may stand in the journal.
 pub resets-lawful : ResetsAreLawful
 unfolding conn
-resets-lawful config files m most r =
-    carried-records config files (MayReset config.stream) (λ c. MayBeSeen (MayStand config.stream c) c) (lawful-local config.stream).nobody (lawful-local config.stream).somebody (λ n s q. (each-limited config files most n s q).lawful) m r
+resets-lawful config files m checked r =
+    carried-records config files (MayReset config.stream) (λ c. MayBeSeen (MayStand config.stream c) c) (lawful-local config.stream).nobody (lawful-local config.stream).somebody (λ n s q. (each-limited config files checked n s q).lawful) m r

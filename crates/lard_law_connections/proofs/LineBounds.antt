@@ -10,7 +10,7 @@ use Rattle.lard_law_connections.proofs.LineCharging.{IsBelow, below-same, falls-
 use Rattle.lard_law_connections.proofs.LineRuns.{step-ordered-so}
 use Rattle.lard_law_connections.proofs.LineSteps.{IsRising}
 use Rattle.lard_law_connections.specs.LineLaws.{ConnectionsStayFew, HasFewConnections, IsNearTheThresholds, IsNotBusy, IsWithinTheRoom, LoadsStayNearTheThresholds, LoadsStayWithinTheRoom, NeverAllBusy, NoneIsClosed, connections_told, greatest_threshold}
-use Rattle.lard_law_connections.proofs.PlacesRuns.{may-come}
+use Rattle.lard_law_connections.proofs.LeaversRuns.{may-come}
 use Rattle.lard_law_connections.proofs.PolicyAsides.{EachFrom, May, may-from}
 use Rattle.lard_law_connections.proofs.Calm.{first_rows, last_rows, told-journal}
 use Rattle.lard_law_connections.proofs.PolicyCounted.{books-are-told, loads-are-charges, reached-counted, standings-are-told}

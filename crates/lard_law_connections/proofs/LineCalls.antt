@@ -76,7 +76,7 @@ module _ (env : FrontEnv) (p : FrontPart) where
       record { closes = (tt, l.closes); in_range = λ e. (last-numbered w.notes (rec.Waits c) [] e, l.in_range e) }
 
   -- what was read is said, or it is placed
-  settled-fits : (row : FrontRow) (rest : FrontRest) (w : Service) (o : Option (List ℕ)) → DeedFits (settled_by env p row rest w o)
+  pub settled-fits : (row : FrontRow) (rest : FrontRest) (w : Service) (o : Option (List ℕ)) → DeedFits (settled_by env p row rest w o)
   settled-fits row rest w None = no-calls (serving_settled env.serve w).1.notes
   settled-fits row rest w (Some path) = placed-fits row rest w path (env.first path)
 
@@ -93,11 +93,11 @@ module _ (env : FrontEnv) (p : FrontPart) where
     words = λ row last at. tt;
   }
 
-  gets-fit : (bytes : List ℕ) (r : Result Said SegFault) → DeedFits (front_gets env p bytes r)
+  pub gets-fit : (bytes : List ℕ) (r : Result Said SegFault) → DeedFits (front_gets env p bytes r)
   gets-fit bytes (Err fault) = tt
   gets-fit bytes (Ok said) = segment-keeps env p bytes said (λ w o. Unit {0}) DeedFits (by-segment bytes said)
 
-  timer-fits : DeedFits (front_timer env p)
+  pub timer-fits : DeedFits (front_timer env p)
   timer-fits = cases.timer-keeps env p DeedFits (record {
     drops = tt;
     holds = λ row b at. no-calls [];
@@ -105,7 +105,7 @@ module _ (env : FrontEnv) (p : FrontPart) where
     resends = λ row n e at. tt;
   })
 
-  taken-fits : (epoch : ℕ) → DeedFits (front_taken p epoch)
+  pub taken-fits : (epoch : ℕ) → DeedFits (front_taken p epoch)
   taken-fits epoch = cases.taken-keeps p DeedFits tt epoch (λ row n e at same. no-calls [])
 
   -- an Ask has a request, and its assignment names the connection
@@ -116,7 +116,7 @@ module _ (env : FrontEnv) (p : FrontPart) where
   assigns-numbered ask r (path ∷ paths) (choice ∷ choices) true some same e = e.0
   assigns-numbered ask r (path ∷ paths) (choice ∷ choices) false some same e = e.0
 
-  asked-fits : (d : Dispatcher) → IsOf env d → (from epoch number queue size : ℕ) (paths : List (List ℕ)) → 1 ≤ length paths → length paths ≤ size → DeedFits (front_asked env p from epoch (ask_of c from number queue size paths))
+  pub asked-fits : (d : Dispatcher) → IsOf env d → (from epoch number queue size : ℕ) (paths : List (List ℕ)) → 1 ≤ length paths → length paths ≤ size → DeedFits (front_asked env p from epoch (ask_of c from number queue size paths))
   asked-fits d of from epoch number queue size paths some within = cases.asked-keeps p DeedFits tt env from epoch (ask_of c from number queue size paths) (λ rest found there same more. tt) (λ rest found there next. new rest) where
     ask : Ask
     ask = ask_of c from number queue size paths

@@ -17,7 +17,8 @@ use Rattle.lard_law_connections.proofs.LineTurns.{Notes, noting}
 use Rattle.lard_law_connections.specs.LineLaws.{AdmitsHead, LineIsKept, LineIsOfThoseWhoWait, LineNeedsAFullRoom, LinePasses, MayWait, MustRelease, TakesRelease, WaitsAtAFullRoom, WaitsAtTheFrontEnd, waits_there}
 use Rattle.lard_law_connections.specs.Line.{Line, leaves, line_left_at, line_left_by, waiting_line, line_step, nobody, all_but}
 use Rattle.lard_law_connections.specs.Places.{IsOdd}
-use Rattle.lard_law_connections.proofs.PlacesRuns.{each-placed, may-come}
+use Rattle.lard_law_connections.proofs.PlacesRuns.{each-placed}
+use Rattle.lard_law_connections.proofs.LeaversRuns.{may-come}
 use Rattle.lard_law_connections.proofs.PlacesTurns.{IsPlaced}
 use Rattle.lard_law_connections.proofs.PolicyCounted.{IsCounted, books-are-told, reached-counted, step-ordered}
 use Rattle.lard_law_connections.proofs.PolicyHomes.{stands-so}
@@ -90,7 +91,7 @@ row-waits nodes rest kept at s (Some row) h k = stage-waits nodes row.epoch.0 re
 
 module _ (config : Config) (files : List (List ℕ × List ℕ)) (checked : config_check config ≡ Ok tt) where
   pub each-lined : (m : Machine) → IsReached config files m → (q : ℕ) → IsLined (conn m q)
-  each-lined = carried config files IsPlaced IsLined (λ l. line-law (with_leaving (setting config files) l) (usable config checked).stream) (each-placed config files)
+  each-lined = carried config files IsPlaced IsLined (λ l. line-law (with_leaving (setting config files) l) (usable config checked).stream) (each-placed config files checked)
 
   -- how each connection stands, by what it sees of the journal
   pub stood : (m : Machine) → IsReached config files m → (q : ℕ) → RowStands (fold (stand_step q) unknown (own q m.journal)) (front_part m.front q).row
@@ -138,7 +139,7 @@ line-is-of-those-who-wait config files m checked r c =
 
 module _ (config : Config) (files : List (List ℕ × List ℕ)) (checked : config_check config ≡ Ok tt) where
   each-joins : (m : Machine) → IsReached config files m → (q : ℕ) → JoinsFree (conn m q)
-  each-joins = carried config files IsLinedThere JoinsFree (λ l. joining-law (with_leaving (setting config files) l) (usable config checked).stream) (λ m r q. (each-lined config files checked m r q, each-placed config files m r q))
+  each-joins = carried config files IsLinedThere JoinsFree (λ l. joining-law (with_leaving (setting config files) l) (usable config checked).stream) (λ m r q. (each-lined config files checked m r q, each-placed config files checked m r q))
 
   abbrev May : List Rec → Rec → Type 0
   May past r = MayWait (ledger config past) past r

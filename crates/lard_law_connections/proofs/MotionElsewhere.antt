@@ -17,9 +17,11 @@ use Rattle.lard_history.proofs.Each.{Each, Each-weaker}
 use Rattle.lard_journal.specs.declared.rec.Rec.TheVariants as rec
 use Rattle.lard_message.specs.declared.kind.Kind.TheVariants as kind
 use Rattle.lard_law_view.proofs.RecordKinds.{IsOuter, IsUnsent}
+use Rattle.lard_law_connections.specs.Past.{GoesToNew}
 
 -- What is known of a connection and of its move beside its way: the view has it of each rule, and the law of places.
 pub record Helps (x : Conn) (v : Move) : Type 0 where
+  pub new : GoesToNew x
   pub number : IsConnNumber x.c
   pub sound : IsConnSound x
   pub placed : IsPlaced x

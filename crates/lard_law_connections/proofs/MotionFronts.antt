@@ -4,14 +4,14 @@ use Rattle.std.proofs.lemmas.Bool.{both_ways, cond_both}
 use Rattle.std.proofs.lemmas.List.Folds.{list_any-append}
 use Rattle.std.proofs.lemmas.List.Sums.{fold-append}
 use Rattle.std.specs.List.{fold}
-use Rattle.lard_law_view.specs.Prelude.{Ask, Call, Client, Conn, ControlBlock, Did, EndedBy, EndpointParts, Ending, Epoch, Final, First, FirstChoice, Front, FrontConn, FrontDeed, FrontEnv, FrontGets, FrontHears, FrontPart, FrontRest, FrontRow, FrontTurn, IsOnceAway, IsOnceHere, IsFrontEnv, Later, Move, Node, NodePart, Place, Reading, Rec, ReturnedBy, Row, Said as Segment, Seen, Service, Setting, Turn, ack_sent, adopted, after_timer, assigned_notes, assigns, by_front, end_answer, ended_with, front_begun, front_does, front_ended, front_ended_by, front_ends, front_fired, front_hears, front_reads, front_rest, front_rests, front_rule, front_saying, handed_off, heard, hears_at, is_away, is_plain_syn, last_words, leaves_by, letter, letters_of, listed, listening, met, next_epoch, on_segment, over_note, placed, rows_of, seen_in, sent_of, serving, serving_settled, settled_by, spoken, stage_after, tag_sent, taken_by, tale_at, timed, tombstone, turn_here, with_front, without}
+use Rattle.lard_law_view.specs.Prelude.{Ask, Call, Client, Conn, ControlBlock, Did, EndedBy, EndpointParts, Ending, Epoch, Final, First, FirstChoice, Front, FrontConn, FrontDeed, FrontEnv, FrontGets, FrontHears, FrontPart, FrontRest, FrontRow, FrontTurn, IsFrontEnv, Later, Move, Node, NodePart, Place, Reading, Rec, ReturnedBy, Row, Said as Segment, Seen, Service, Setting, Turn, ack_sent, adopted, after_timer, assigned_notes, assigns, by_front, end_answer, ended_with, front_begun, front_does, front_ended, front_ended_by, front_ends, front_fired, front_hears, front_reads, front_rest, front_rests, front_rule, front_saying, handed_off, heard, hears_at, is_away, is_plain_syn, last_words, leaves_by, letter, letters_of, listed, listening, met, next_epoch, on_segment, over_note, placed, rows_of, seen_in, sent_of, serving, serving_settled, settled_by, spoken, stage_after, tag_sent, taken_by, tale_at, timed, tombstone, turn_here, with_front, without}
 use Rattle.lard_base.specs.declared.place.TimerKind.TheVariants as timer
 use Rattle.lard_law_connections.specs.Motion.{IsHandedOff, first_back, first_syn, first_takes, forwards_by, forwards_of, later_takes}
 use Rattle.lard_law_connections.specs.MotionStory.{Story, first_node, forward_to, front_gave_epoch, front_took, is_among, last_gave, picked, refused_in, row_step, story, to_node}
 use Rattle.lard_law_connections.proofs.MotionAnswers.{reads-answers}
 use Rattle.lard_law_connections.proofs.MotionElsewhere.{AreNextUp, Helps, IsAway, IsBack, IsKnown, IsNotOfClient, IsOfferKept, Lists, Moves, Parts, RowKnown, IsNoLater, StageKnown, and-false, no-later-grows, by-lists, machine-letters, no-forwards, no-syn, no-takes, none-back, seen-back, seen-firsts, seen-forwards, seen-gives, seen-said, seen-segments, seen-syn, seen-takes}
 use Rattle.lard_law_connections.proofs.MotionPicking.{IsStill, pick, pick-append, picked-append, segments-none, still-all, stills-first, stills-took, story-grown}
-use Rattle.lard_law_connections.specs.Places.{HasEnded, IsComing, IsDecided, IsOffered, IsRefusalTold, IsThere, Offers, Owning, Sits, StageSits, owning, unowned}
+use Rattle.lard_law_connections.specs.Places.{HasEnded, IsComing, IsDecided, IsEarlyEpoch, IsOffered, IsRefusalTold, IsThere, Offers, Owning, Sits, StageSits, owning, unowned}
 use Rattle.lard_law_connections.proofs.MotionEpochs.{gave-last}
 use Rattle.lard_law_connections.proofs.PlacesFrontMessages.{coming-refused, there-epoch}
 use Rattle.lard_law_connections.proofs.PlacesFrontRules.{decided-there}
@@ -189,7 +189,7 @@ module _ (k : Setting) (x : Conn) (at_place : IsPlaced x) (known : IsKnown x) (h
     go true f = let le : IsNoLater e (Some row) = subst (IsNoLater e) found (no_later e f) in absurd (omega (arith, le, later))
 
   -- it is handed off
-  handed-move : (row : FrontRow) → p.row ≡ Some row → IsBack t → IsOnceHere row.epoch.0 → es ≡ []
+  handed-move : (row : FrontRow) → p.row ≡ Some row → IsBack t → IsEarlyEpoch row.epoch.0 → es ≡ []
       → (s : Service) (path : List ℕ) (choice : FirstChoice) (calls : List Call) → Each IsStill s.notes
       → Goes (Does (record { part = (handed_off env row s path choice).0; turn = (handed_off env row s path choice).1; calls = calls }))
   handed-move row found h early none s path choice calls notes =
@@ -220,7 +220,7 @@ module _ (k : Setting) (x : Conn) (at_place : IsPlaced x) (known : IsKnown x) (h
         undone : is_among (row.epoch.0 + 1) (t.back ++ es) ≡ false
         undone = never-among (row.epoch.0 + 1) row found (omega arith)
 
-  placed-move : (row : FrontRow) → p.row ≡ Some row → IsBack t → IsOnceHere row.epoch.0 → es ≡ []
+  placed-move : (row : FrontRow) → p.row ≡ Some row → IsBack t → IsEarlyEpoch row.epoch.0 → es ≡ []
       → (rest : FrontRest) (s : Service) (path : List ℕ) (f : First) → Each IsStill s.notes
       → Goes (Does (placed env p row rest s path f))
   placed-move row found h early none rest s path (first.Go choice) notes = handed-move row found h early none s path choice (call.First env.serve.c path env.now ∷ []) notes
@@ -229,14 +229,14 @@ module _ (k : Setting) (x : Conn) (at_place : IsPlaced x) (known : IsKnown x) (h
       ends-move row found h (record rest { target = Some path }) stage.Waiting (λ b. back-behind t syn es h) (spoken env.serve w []) (call.First env.serve.c path env.now ∷ leaves_by env.serve.c (spoken env.serve w []).0)
       (Each-append IsStill s.notes (rec.Waits env.serve.c ∷ []) notes (tt, tt)) (spoken-to env.serve w [] tt)
 
-  settled-move : (row : FrontRow) → p.row ≡ Some row → IsBack t → IsOnceHere row.epoch.0 → es ≡ [] → (rest : FrontRest) (s : Service) (o : Option (List ℕ))
+  settled-move : (row : FrontRow) → p.row ≡ Some row → IsBack t → IsEarlyEpoch row.epoch.0 → es ≡ [] → (rest : FrontRest) (s : Service) (o : Option (List ℕ))
       → Each IsStill s.notes → Goes (settled_by env p row rest s o)
   settled-move row found h early none rest s None notes =
       let done = settled-is env.serve s in
       ends-move row found h rest stage.Held (λ b. back-behind t syn es h) (serving_settled env.serve s) [] (subst (Each IsStill) (sym done.notes) notes) done.to
   settled-move row found h early none rest s (Some path) notes = placed-move row found h early none rest s path (env.first path) notes
 
-  heard-move : (row : FrontRow) → p.row ≡ Some row → IsBack t → IsOnceHere row.epoch.0 → es ≡ [] → (rest : FrontRest) (b : ControlBlock)
+  heard-move : (row : FrontRow) → p.row ≡ Some row → IsBack t → IsEarlyEpoch row.epoch.0 → es ≡ [] → (rest : FrontRest) (b : ControlBlock)
       → Goes (heard env p row rest b)
   heard-move row found h early none rest b =
       let r : Reading = front_reads env.serve (record { service = serving b rest.count []; target = None }) in
@@ -351,7 +351,7 @@ module _ (k : Setting) (x : Conn) (at_place : IsPlaced x) (known : IsKnown x) (h
 
       hears-at : (s : Segment) (row : FrontRow) → p.row ≡ Some row → (st : FrontConn) → row.stage ≡ st → Goes (hears_at env p row bytes s st)
       hears-at s row found (stage.Held b) at =
-          heard-move row found (subst (StageKnown t) at (row-of row found).2) (early-at x at_place row found (stage.Held b) at) no_back (front_rest p.rest) (on_segment b s).1
+          heard-move row found (subst (StageKnown t) at (row-of row found).2) (early-at x at_place row found) no_back (front_rest p.rest) (on_segment b s).1
       hears-at s row found (stage.Waiting b) at =
           let w : Service = serving (on_segment b s).1 (front_rest p.rest).count [] in
           let h : IsBack t = subst (StageKnown t) at (row-of row found).2 in
@@ -416,7 +416,7 @@ module _ (k : Setting) (x : Conn) (at_place : IsPlaced x) (known : IsKnown x) (h
         gives_again = λ n epoch parts no row found past. absurd no;
         returns = λ n epoch given no row parts at. absurd no;
         admits = λ choice made met row b path at target.
-            handed-move row at.0 (held-in row (stage.Waiting b) at) (early-at x at_place row at.0 (stage.Waiting b) at.1) no_back
+            handed-move row at.0 (held-in row (stage.Waiting b) at) (early-at x at_place row at.0) no_back
             (serving b (front_rest p.rest).count []) path choice [] tt;
       }
 
@@ -553,7 +553,7 @@ module _ (k : Setting) (x : Conn) (at_place : IsPlaced x) (known : IsKnown x) (h
     -- ---- a Refused comes
 
     -- it was offered there, and is here again: it reads on in the same step
-    module _ (row : FrontRow) (parts : EndpointParts) (found : p.row ≡ Some row) (d : Epoch) (h : IsAway t n d.0) (same : d.0 ≡ epoch) (at : row.epoch.0 ≡ epoch) (early : IsOnceAway epoch)
+    module _ (row : FrontRow) (parts : EndpointParts) (found : p.row ≡ Some row) (d : Epoch) (h : IsAway t n d.0) (same : d.0 ≡ epoch) (at : row.epoch.0 ≡ epoch) (early : IsEarlyEpoch epoch)
         (free : own.owner ≡ None) (behind : own.epoch + 1 ≡ epoch) (refused : is_among epoch (picked refused_in heads) ≡ true) where
       abbrev next : List ℕ
       next = (row.epoch.0 + 1) ∷ []
@@ -708,7 +708,7 @@ module _ (k : Setting) (x : Conn) (at_place : IsPlaced x) (known : IsKnown x) (h
           let coming : IsComing epoch own (nodes n).row = coming-refused n epoch own (nodes n)
           (subst (λ (e : ℕ). IsComing e own (nodes n).row ⊎ IsThere n e own (nodes n).row) now sits.3) down.told.0 in
           let known_away : IsAway t n d.0 = subst (StageKnown t) at (row-of row found).2 in
-          let goes = reads-back row down.parts found d known_away same now (subst IsOnceAway now (early-at x at_place row found (stage.Offering n d) at)) coming.0 coming.1 down.refused in
+          let goes = reads-back row down.parts found d known_away same now (subst IsEarlyEpoch now (early-at x at_place row found)) coming.0 coming.1 down.refused in
           let with : is_with n epoch row.stage ≡ true = ap (is_with n epoch) at ∙ (λ i. eq-eqb n n refl i && eq-eqb d.0 epoch same i) in
           let to : offered_to epoch row.stage ≡ Some n = ap (offered_to epoch) at ∙ ap (λ b. cond b (Some n) None) (eq-eqb d.0 epoch same) in
           subst Goes (sym ((λ i. returned_by env p [] (Some row) (cond (with i) (refused_answer epoch (Some row)) back.Stale) (down.read i))

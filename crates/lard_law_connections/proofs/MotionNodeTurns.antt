@@ -2,19 +2,19 @@
 use Rattle.std.proofs.Common.{◌≡◌, ◌≢◌, ◌⊎◌, ◌+◌, ◌≤◌, ◌<◌, ◌^◌, ◌==◌, max, nat_lt, nat_eq, ℕ, Bool, true, false, cond, List, [], ◌∷◌, ◌++◌, map, Option, Some, None, inl, inr, ⊎_elim, refl, sym, ap, ◌∙◌, subst, arith, eqb-true, eq-eqb}
 use Rattle.std.proofs.lemmas.Bool.{both_ways, lt-ltb, ltb-true}
 use Rattle.std.proofs.lemmas.List.{map-append}
-use Rattle.lard_law_view.specs.Prelude.{Adopt, BackRow, Conn, ControlBlock, Ending, EndpointParts, IsOnceAway, IsNodeEnv, Message, Move, Node, NodeDeed, NodeEnv, NodeGets, NodePart, Offered, Place, Rec, Seen, Setting, Stay, Turn, Work, after_timer, again_sent, all_sent, came_for, come_progress, ended_sent, epoch_in, goes_on, gone, is_no_node, kept_after, listed, named_records, node_does, node_offered, node_put_back, node_rule, node_saying, offer_answer, offered_by, on_segment, read_progress, reset_count, rows_of, seen_in, serving, serving_ready_of, serving_settled, spelled_message, spoken, tagged, taken_sent, tale_at, timed, timer_rows, turn_by, with_work, without, work_of}
+use Rattle.lard_law_view.specs.Prelude.{Adopt, BackRow, Conn, ControlBlock, Ending, EndpointParts, Front, IsNodeEnv, Message, Move, Node, NodeDeed, NodeEnv, NodeGets, NodePart, NodeTurn, Offered, Place, Rec, Seen, Setting, Stay, TimerKind, Turn, Work, after_timer, again_sent, all_sent, came_for, come_progress, epoch_in, gives_back, goes_on, gone, is_no_node, kept_after, kept_back, kind_of, listed, named_records, node_does, node_offered, node_put_back, node_rule, node_saying, offer_answer, offered_by, on_segment, parts_of, read_progress, reset_count, rows_of, seen_in, serving, serving_ready_of, serving_settled, spelled_message, spoken, tagged, taken_sent, tale_at, timed, timer_rows, told_kind, turn_back, turn_by, with_work, without, work_of}
 use Rattle.lard_base.specs.declared.place.TimerKind.TheVariants as timer
 use Rattle.lard_law_connections.specs.Motion.{EachIsTold, NodeEnds, Says as SaysIt, above}
 use Rattle.lard_law_connections.specs.MotionStory.{from_node, highest, node_gave_epoch, node_took, of_row, epoch_offered, picked}
 use Rattle.lard_law_connections.proofs.MotionElsewhere.{AreNextUp, Helps}
 use Rattle.lard_law_connections.proofs.MotionEpochs.{gave-last}
 use Rattle.lard_law_connections.proofs.MotionPicking.{pick, pick-append, pick-none, pick-parts, pick-seen}
-use Rattle.lard_law_connections.specs.Places.{Head, IsComing, IsDecided, IsEven, IsOffered, Owning, owning}
+use Rattle.lard_law_connections.specs.Places.{Head, IsComing, IsDecided, IsEarlyEpoch, IsEven, IsOffered, Owning, owning}
 use Rattle.lard_law_connections.proofs.PlacesHeads.{spelled-head}
 use Rattle.lard_law_connections.proofs.PlacesLoops.{came-notes, goes-notes, settled-is, tagged-notes}
 use Rattle.lard_law_connections.proofs.PlacesNodeRules.{Begins, begun-notes, begun_work, has-here, new-below, not-decided, plain-more, took_by}
 use Rattle.lard_law_connections.proofs.PlacesRows.{IsPlain, plain-named}
-use Rattle.lard_law_connections.proofs.PlacesTurns.{IsPlaced}
+use Rattle.lard_law_connections.proofs.PlacesTurns.{IsPlaced, never-refuses, stays-answer}
 use Rattle.lard_law_view.specs.View.{sending}
 use Rattle.lard_law_view.proofs.Fine.{IsItsOwn}
 use Rattle.lard_law_view.proofs.Parts.{put-same}
@@ -22,13 +22,13 @@ use Rattle.lard_handoff_back.specs.declared.table.Adopt.TheVariants.{New, Again,
 use Rattle.lard_history.proofs.Each.{Each, Each-weaker}
 use Rattle.lard_history.proofs.Seeing.{other_number, same_number}
 use Rattle.lard_journal.specs.declared.rec.Rec.TheVariants as rec
-use Rattle.lard_message.specs.declared.kind.Kind.TheVariants as kind
 use Rattle.lard_message.specs.declared.message.Body.TheVariants as body
-use Rattle.lard_rules.proofs.NodeCases.{IsHereWith, IsInItsEpoch, KeptByNode, node-keeps}
+use Rattle.lard_rules.proofs.NodeCases.{IsHereWith, IsOfItsEpoch, KeptByNode, Turned, node-keeps}
 use Rattle.lard_rules.specs.Node.{Drops, Says, Does}
 use Rattle.lard_rules.specs.declared.places.Ending.TheVariants as ending
 use Rattle.lard_law_connections.proofs.MotionNodes.{At, IsFirst, IsOther, IsOfNodes, NodesGo, NodesKnown, max-none, nodes-go, other-at, quiet-at, seen-gave, seen-offers, seen-took}
-use Rattle.lard_law_connections.proofs.PlacesWithNode.{offered-away, offered-coming}
+use Rattle.lard_law_connections.proofs.PlacesWithNode.{offered-away, offered-coming, offered-new}
+use Rattle.lard_law_connections.specs.Past.{GoesToNew, IsNewTo}
 
 -- ---- plain notes take nothing
 
@@ -99,54 +99,86 @@ module _ (k : Setting) (x : Conn) (at_place : IsPlaced x) (known : NodesKnown x)
   kept-late part work (ending.Here b count) even = even
   kept-late part work (ending.Over last) even = even
 
+  -- the last of its messages has this head
+  says-last : (q : NodePart) (turn : NodeTurn) (msgs : List (Place × List ℕ)) (m : Message) → IsEarlyEpoch m.epoch.0 → turn.messages ≡ msgs ++ (Front, spelled_message m) ∷ []
+      → SaysIt (record { kind = kind_of m.body; epoch = m.epoch.0 }) (picked (of_row (from_node n)) (seen_in x (node_does x n heads (Does (q, turn)))))
+  says-last q turn msgs m early are =
+      let v : Move = node_does x n heads (Does (q, turn)) in
+      let end : List (Place × List ℕ) = (Front, spelled_message m) ∷ [] in
+      let h : Head = record { kind = kind_of m.body; epoch = m.epoch.0 } in
+      let bytes : List ℕ = spelled_message m in
+      let one : pick (from_node n) (map (sending (Node n)) end) ≡ bytes ∷ [] = ap (λ b. listed (cond b (Some bytes) None) ++ []) (same_number n) in
+      let small : m.epoch.0 < 2 ^ 16 = omega (arith, early) in
+      let ends : SaysIt h (pick (from_node n) (map (sending (Node n)) end)) = subst (SaysIt h) (sym one) (inl (spelled-head m small)) in
+      let both : SaysIt h (pick (from_node n) (map (sending (Node n)) (msgs ++ end))) =
+      subst (λ (l : List Rec). SaysIt h (pick (from_node n) l)) (sym (map-append (sending (Node n)) msgs end))
+      (subst (SaysIt h) (sym (pick-append (from_node n) (map (sending (Node n)) msgs) (map (sending (Node n)) end)))
+      (says-before h (pick (from_node n) (map (sending (Node n)) msgs)) (pick (from_node n) (map (sending (Node n)) end)) ends)) in
+      let told : SaysIt h (pick (from_node n) (map (sending (Node n)) turn.messages)) =
+      subst (λ (l : List (Place × List ℕ)). SaysIt h (pick (from_node n) (map (sending (Node n)) l))) (sym are) both in
+      let rows : SaysIt h (pick (from_node n) (rows_of x v)) = subst (SaysIt h) (sym (pick-parts (from_node n) x v))
+      (says-behind h _ (pick (from_node n) (timer_rows (Node n) x.c x.part v.part)) (says-before h _ (pick (from_node n) (map (sending (Node n)) turn.messages)) told)) in
+      subst (SaysIt h) (sym (pick-seen (from_node n) x v)) (says-before h (picked (of_row (from_node n)) heads) (pick (from_node n) (rows_of x v)) rows)
+
+  -- it gives up what it has
+  abbrev gave_it : List Rec
+  gave_it = rec.Gave (Node env.n) env.serve.c (record { 0 = env.epoch }) ∷ []
+
+  gave-is : pick (node_gave_epoch n) gave_it ≡ env.epoch ∷ []
+  gave-is = ap (λ b. listed (cond b (Some env.epoch) None) ++ []) (ap (λ (m : ℕ). nat_eq m n) is.node ∙ same_number n)
+
+  abbrev IsToldSo : NodePart → NodeTurn → Type 0
+  IsToldSo q turn = let v : Move = node_does x n heads (Does (q, turn)) in IsItsOwn x v → NodeEnds n (seen_in x v)
+
   -- what it gives up is told
-  gave-told : (part : NodePart) (before_sent : List (Place × List ℕ)) (work : Work) (given : Ending × Turn) → IsOnceAway env.epoch
-      → (let v : Move = node_does x n heads (Does (kept_after env part work given.0, turn_by env before_sent work given)) in IsItsOwn x v → NodeEnds n (seen_in x v))
+  gave-told : (part : NodePart) (before_sent : List (Place × List ℕ)) (work : Work) (given : Ending × Turn) → IsEarlyEpoch env.epoch → IsToldSo (kept_after env part work given.0) (turn_by env before_sent work given)
   gave-told part before_sent work (ending.Here b count, turn) early mine =
       let v : Move = node_does x n heads (Does (kept_after env part work (ending.Here b count), turn_by env before_sent work (ending.Here b count, turn))) in
       subst (λ (l : List ℕ). EachIsTold l (picked (of_row (from_node n)) (seen_in x v))) (sym (seen-gave n x v mine first [] refl)) tt
   gave-told part before_sent work (ending.Over last, turn) early mine =
-      let v : Move = node_does x n heads (Does (kept_after env part work (ending.Over last), turn_by env before_sent work (ending.Over last, turn))) in
-      let msgs : List (Place × List ℕ) = all_sent env before_sent work in
-      let end : List (Place × List ℕ) = ended_sent env work.service.over (ending.Over last) in
-      let h : Head = record { kind = kind.Ended; epoch = env.epoch } in
-      let gave : pick (node_gave_epoch n) v.said.gave ≡ env.epoch ∷ [] = ap (λ b. listed (cond b (Some env.epoch) None) ++ []) (ap (λ (m : ℕ). nat_eq m n) is.node ∙ same_number n) in
+      let given : Ending × Turn = (ending.Over last, turn) in
+      let v : Move = node_does x n heads (Does (kept_after env part work given.0, turn_by env before_sent work given)) in
       let m : Message = record { c = env.serve.c; epoch = record { 0 = env.epoch }; body = body.Ended last.reason last.snd.0 last.rcv.0 (reset_count work.service.over) } in
-      let bytes : List ℕ = spelled_message m in
-      let one : pick (from_node n) (map (sending (Node n)) end) ≡ bytes ∷ [] = ap (λ b. listed (cond b (Some bytes) None) ++ []) (same_number n) in
-      let small : env.epoch < 2 ^ 16 = omega (arith, early) in
-      let ends : SaysIt h (pick (from_node n) (map (sending (Node n)) end)) = subst (SaysIt h) (sym one) (inl (spelled-head m small)) in
-      let told : SaysIt h (pick (from_node n) (map (sending (Node n)) (msgs ++ end))) =
-      subst (λ (l : List Rec). SaysIt h (pick (from_node n) l)) (sym (map-append (sending (Node n)) msgs end))
-      (subst (SaysIt h) (sym (pick-append (from_node n) (map (sending (Node n)) msgs) (map (sending (Node n)) end)))
-      (says-before h (pick (from_node n) (map (sending (Node n)) msgs)) (pick (from_node n) (map (sending (Node n)) end)) ends)) in
-      let rows : SaysIt h (pick (from_node n) (rows_of x v)) = subst (SaysIt h) (sym (pick-parts (from_node n) x v))
-      (says-behind h _ (pick (from_node n) (timer_rows (Node n) x.c x.part v.part)) (says-before h _ (pick (from_node n) (map (sending (Node n)) (msgs ++ end))) told)) in
-      let all : SaysIt h (picked (of_row (from_node n)) (seen_in x v)) = subst (SaysIt h) (sym (pick-seen (from_node n) x v)) (says-before h (picked (of_row (from_node n)) heads) (pick (from_node n) (rows_of x v)) rows) in
-      subst (λ (l : List ℕ). EachIsTold l (picked (of_row (from_node n)) (seen_in x v))) (sym (seen-gave n x v mine first (env.epoch ∷ []) gave)) (inl all, tt)
+      subst (λ (l : List ℕ). EachIsTold l (picked (of_row (from_node n)) (seen_in x v))) (sym (seen-gave n x v mine first (env.epoch ∷ []) gave-is))
+      (inl (says-last (kept_after env part work given.0) (turn_by env before_sent work given) (all_sent env before_sent work) m early refl), tt)
 
-  turn-go : (part : NodePart) (before_sent : List (Place × List ℕ)) (work : Work) (given : Ending × Turn) (takes : List ℕ) → IsEven env.epoch → IsOnceAway env.epoch → pick (node_took n) (named_records given.1.notes) ≡ takes
+  -- and what it gives back
+  back-told : (part : NodePart) (before_sent : List (Place × List ℕ)) (work : Work) → IsEarlyEpoch env.epoch → IsToldSo (kept_back env part work) (turn_back env before_sent work)
+  back-told part before_sent work early mine =
+      let v : Move = node_does x n heads (gives_back env part before_sent work) in
+      let m : Message = record { c = env.serve.c; epoch = record { 0 = env.epoch }; body = body.Give (parts_of work.service.block work.service.count) } in
+      subst (λ (l : List ℕ). EachIsTold l (picked (of_row (from_node n)) (seen_in x v))) (sym (seen-gave n x v mine first (env.epoch ∷ []) gave-is))
+      (inr (says-last (kept_back env part work) (turn_back env before_sent work) (all_sent env before_sent work) m early refl), tt)
+
+  -- what it has is of this epoch
+  does-go : (q : NodePart) (turn : NodeTurn) (takes : List ℕ) → epoch_in q ≡ env.epoch → IsOfNodes q.row → IsToldSo q turn → pick (node_took n) (named_records turn.notes) ≡ takes
       → (is_no_node k.nodes n ≡ false → takes ≡ above before (picked (epoch_offered n) heads)) → max before (highest takes) ≡ env.epoch
-      → AreNextUp x (node_does x n heads (Does (kept_after env part work given.0, turn_by env before_sent work given))) takes → Goes (Does (kept_after env part work given.0, turn_by env before_sent work given))
-  turn-go part before_sent work given takes even early took due then up help =
-      let q : NodePart = kept_after env part work given.0 in
-      let v : Move = node_does x n heads (Does (q, turn_by env before_sent work given)) in
+      → AreNextUp x (node_does x n heads (Does (q, turn))) takes → Goes (Does (q, turn))
+  does-go q turn takes now late told took due then up help =
+      let v : Move = node_does x n heads (Does (q, turn)) in
       by-own v help.own refl refl (put-other q) (record {
         takes = takes;
         takes_are = seen-took n x v help.own first takes took;
         due = λ there. due there ∙ ap (above before) (sym (seen-offers n x v help.own first (picked (epoch_offered n) heads) refl));
-        ends = gave-told part before_sent work given early help.own;
+        ends = told help.own;
         up = up;
-        then = then ∙ sym (ap epoch_in (put-same nodes n q) ∙ kept-epoch part work given.0);
-        late = subst (λ (p : NodePart). IsOfNodes p.row) (sym (put-same nodes n q)) (kept-late part work given.0 even);
+        then = then ∙ sym (ap epoch_in (put-same nodes n q) ∙ now);
+        late = subst (λ (p : NodePart). IsOfNodes p.row) (sym (put-same nodes n q)) late;
       })
+
+  turn-go : (part : NodePart) (before_sent : List (Place × List ℕ)) (work : Work) (given : Ending × Turn) (takes : List ℕ) → IsEven env.epoch → IsEarlyEpoch env.epoch → pick (node_took n) (named_records given.1.notes) ≡ takes
+      → (is_no_node k.nodes n ≡ false → takes ≡ above before (picked (epoch_offered n) heads)) → max before (highest takes) ≡ env.epoch
+      → AreNextUp x (node_does x n heads (Does (kept_after env part work given.0, turn_by env before_sent work given))) takes → Goes (Does (kept_after env part work given.0, turn_by env before_sent work given))
+  turn-go part before_sent work given takes even early took due then up =
+      does-go (kept_after env part work given.0) (turn_by env before_sent work given) takes (kept-epoch part work given.0) (kept-late part work given.0 even)
+      (gave-told part before_sent work given early) took due then up
 
   -- ---- of one that is here
 
   -- its stay is of this epoch
   record IsHere : Type 0 where
     even : IsEven env.epoch
-    early : IsOnceAway env.epoch
+    early : IsEarlyEpoch env.epoch
     now : epoch_in ours ≡ env.epoch
 
   is-here : (b : ControlBlock) (s : Stay) → IsHereWith env.epoch ours b s → IsHere
@@ -177,6 +209,15 @@ module _ (k : Setting) (x : Conn) (at_place : IsPlaced x) (known : NodesKnown x)
         plain-go it part [] w (serving_settled env.serve w.service)
         (subst (Each IsPlain) (sym done.notes) (goes-notes (Each IsPlain) plain-more env work plain))
 
+    back-go : IsHere → (part : NodePart) (work : Work) → Each IsPlain work.service.notes → Goes (gives_back env part [] work)
+    back-go it part work plain = does-go (kept_back env part work) (turn_back env [] work) [] refl it.even (back-told part [] work it.early)
+        (plains-took n (named_records work.service.notes) (plain-named work.service.notes plain))
+        (λ there. ap (above before) (sym none)) (max-none before ∙ known.highest_is n ∙ it.now) tt
+
+    -- it goes on, or goes back
+    turns-go : IsHere → (part : NodePart) (work : Work) → Each IsPlain work.service.notes → Turned Goes env part [] (goes_on env work)
+    turns-go it part work plain = (λ rests. works-go it part work plain, λ back. back-go it part (goes_on env work) (goes-notes (Each IsPlain) plain-more env work plain))
+
     -- its end is acknowledged
     gone-epoch : (o : Option BackRow) → epoch_in (record ours { row = gone o }) ≡ epoch_in (record ours { row = o })
     gone-epoch None = refl
@@ -186,9 +227,9 @@ module _ (k : Setting) (x : Conn) (at_place : IsPlaced x) (known : NodesKnown x)
     gone-late None h = tt
     gone-late (Some row) h = h
 
-    ends-go : Goes (Does (record ours { row = gone ours.row; kept = without timer.Ended 0 ours.kept }, node_saying []))
-    ends-go help =
-        let q : NodePart = record ours { row = gone ours.row; kept = without timer.Ended 0 ours.kept } in
+    ends-go : (told : TimerKind) → Goes (Does (record ours { row = gone ours.row; kept = without told 0 ours.kept }, node_saying []))
+    ends-go told help =
+        let q : NodePart = record ours { row = gone ours.row; kept = without told 0 ours.kept } in
         let v : Move = node_does x n heads (Does (q, node_saying [])) in
         by-own v help.own refl refl (put-other q)
         (quiet-at k.nodes n x v help.own known first none refl refl (ap epoch_in (put-same nodes n q) ∙ gone-epoch ours.row)
@@ -197,22 +238,24 @@ module _ (k : Setting) (x : Conn) (at_place : IsPlaced x) (known : NodesKnown x)
     rules_go : KeptByNode env ours IsNoOffer Goes
     rules_go = record {
       drops = dropped;
-      hears = λ said b s m at. works-go (is-here b s at) ours (work_of (on_segment b said).1 s) tt;
-      tags = λ number tags b s m at asked same count. works-go (is-here b s at) (record ours { kept = without timer.Ask 0 ours.kept })
+      hears = λ said b s m at. turns-go (is-here b s at) ours (work_of (on_segment b said).1 s) tt;
+      tags = λ number tags b s m at asked same count. turns-go (is-here b s at) (record ours { kept = without timer.Ask 0 ours.kept })
           (tagged env tags (work_of b s)) (tagged-notes (Each IsPlain) plain-more env tags (work_of b s) tt);
-      comes = λ from r b s m at wanted. works-go (is-here b s at) (record ours { fetches = without timer.Fetch r ours.fetches })
+      comes = λ from r b s m at wanted. turns-go (is-here b s at) (record ours { fetches = without timer.Fetch r ours.fetches })
           (came_for (come_progress from) r (work_of b s)) (came-notes (Each IsPlain) plain-more (come_progress from) r (work_of b s) tt);
-      reads = λ r path b s m at. works-go (is-here b s at) ours (came_for read_progress r (work_of b s))
+      reads = λ r path b s m at. turns-go (is-here b s at) ours (came_for read_progress r (work_of b s))
           (came-notes (Each IsPlain) plain-more read_progress r (work_of b s) tt);
-      begins = λ parts m new. absurd m;
+      begins = λ parts m new may. absurd m;
       takes_again = λ parts m again. absurd m;
+      refuses = λ parts m refuse. absurd m;
       fires = λ b s m at. plain-go (is-here b s at) ours (again_sent ours) (work_of (after_timer b) s)
           (spoken env.serve (serving (after_timer b) s.served []) (serving_ready_of env.serve (after_timer b) (timed b))) tt;
       resends = λ m nobody. says-go (again_sent ours);
-      ends = λ m told. ends-go;
+      ends = λ back m told was. ends-go (told_kind back);
+      leaves = λ b s m at back. back-go (is-here b s at) ours (work_of b s) tt;
     }
 
-    pub rule-goes : (g : NodeGets) → IsInItsEpoch env ours g → IsNoOffer g → Goes (node_rule env ours g)
+    pub rule-goes : (g : NodeGets) → IsOfItsEpoch env ours g → IsNoOffer g → Goes (node_rule env ours g)
     rule-goes g at other = node-keeps env ours IsNoOffer Goes rules_go g at other
 
   -- ---- an Offer comes to it
@@ -241,7 +284,7 @@ module _ (k : Setting) (x : Conn) (at_place : IsPlaced x) (known : NodesKnown x)
 
     -- where it is new it is offered, in an early epoch of nodes
     abbrev IsAwayNow : Type 0
-    IsAwayNow = IsEven env.epoch × IsOnceAway env.epoch
+    IsAwayNow = IsEven env.epoch × IsEarlyEpoch env.epoch
 
     undecided-offered : (IsDecided env.epoch ours.row → ⊥) → IsOffered n env.epoch x.part.front.row
     undecided-offered other = ⊎_elim (λ (d : IsDecided env.epoch ours.row). absurd (other d)) (λ (o : IsOffered n env.epoch x.part.front.row). o) said
@@ -272,23 +315,26 @@ module _ (k : Setting) (x : Conn) (at_place : IsPlaced x) (known : NodesKnown x)
         (λ there. sym (ap (above before) comes ∙ ap (λ (b : Bool). cond b (env.epoch ∷ []) []) (lt-ltb before env.epoch over))) (omega (arith, over))
         (inl (sym coming.1 ∙ ap (λ (e : ℕ). e + 1) (sym (gave-last x at_place coming.0))), tt)
 
-    -- where it is not, no stay of an earlier epoch is there
-    not-below : (o : Option BackRow) → ours.row ≡ o → (offer_answer env.epoch o ≡ New → ⊥) → nat_lt (epoch_in (record ours { row = o })) env.epoch ≡ false
-    not-below None found other = absurd (other refl)
-    not-below (Some row) found other = go (nat_lt row.epoch.0 env.epoch) refl where
+    -- where it is not, no stay of an earlier epoch is there: it goes to a node that is new to it
+    not-below : GoesToNew x → (o : Option BackRow) → ours.row ≡ o → (offer_answer env.epoch o ≡ New → ⊥) → nat_lt (epoch_in (record ours { row = o })) env.epoch ≡ false
+    not-below new None found other = absurd (other refl)
+    not-below new (Some row) found other = go (nat_lt row.epoch.0 env.epoch) refl where
       go : (b : Bool) → nat_lt row.epoch.0 env.epoch ≡ b → b ≡ false
       go false e = refl
       go true e =
           let less : row.epoch.0 < env.epoch = ltb-true row.epoch.0 env.epoch e in
-          let late : IsEven row.epoch.0 = late-as (Some row) found in
-          let away : IsAwayNow = undecided-away (λ d. let le : env.epoch ≤ row.epoch.0 = subst (IsDecided env.epoch) found d in omega (arith, le, less)) in
-          absurd (omega (arith, away.1, late.0, late.1, less))
+          let offered : IsOffered n env.epoch x.part.front.row =
+          undecided-offered (λ d. let le : env.epoch ≤ row.epoch.0 = subst (IsDecided env.epoch) found d in omega (arith, le, less)) in
+          let its : row.epoch.0 ≡ env.epoch = subst (IsNewTo env.epoch) found (offered-new x new n env.epoch offered) in
+          absurd (omega (arith, its, less))
 
     by-answer : (a : Adopt) → offer_answer env.epoch ours.row ≡ a → Goes (offered_by env parts ours a)
     by-answer New new = new-go new
-    by-answer Again again = old-says (not-below ours.row refl (λ new. let no : Again ≡ New = sym again ∙ new in absurd cc)) (taken_sent env)
-    by-answer Stale stale = old-drops (not-below ours.row refl (λ new. let no : Stale ≡ New = sym stale ∙ new in absurd cc))
-    by-answer Refuse refuse = old-drops (not-below ours.row refl (λ new. let no : Refuse ≡ New = sym refuse ∙ new in absurd cc))
+    by-answer Again again = λ help. old-says (not-below help.new ours.row refl (λ new. let no : Again ≡ New = sym again ∙ new in absurd cc)) (taken_sent env) help
+    by-answer Stale stale = λ help. old-drops (not-below help.new ours.row refl (λ new. let no : Stale ≡ New = sym stale ∙ new in absurd cc)) help
+    by-answer Refuse refuse = absurd (never-refuses env.leaving env.epoch ours.row ours.beside is.remains (at_place.unreturned.unrefused n)
+        (stays-answer env.leaving env.epoch ours.row ours.beside is.remains (at_place.unreturned.unrefused n) ∙ refuse))
 
     pub offered-go : Goes (node_offered env ours parts)
-    offered-go = by-answer (offer_answer env.epoch ours.row) refl
+    offered-go = subst (λ (a : Adopt). Goes (offered_by env parts ours a))
+        (sym (stays-answer env.leaving env.epoch ours.row ours.beside is.remains (at_place.unreturned.unrefused n))) (by-answer (offer_answer env.epoch ours.row) refl)

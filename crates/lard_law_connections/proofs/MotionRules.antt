@@ -3,7 +3,7 @@ use Rattle.std.proofs.Common.{◌≡◌, ◌≢◌, ◌⊎◌, ◌||◌, ℕ, Bo
 use Rattle.std.proofs.lemmas.Bool.{both_ways}
 use Rattle.std.proofs.lemmas.List.Folds.{list_any-append}
 use Rattle.lard_base.specs.declared.event.Event.TheVariants as event
-use Rattle.lard_law_view.specs.Prelude.{AskedBy, BackRow, Client, ClientBlock, ClientRules, Completed, Conn, Content, EndedBy, EndpointParts, Fires, Forwarded, Front, FrontAdmits, FrontConn, FrontEnv, FrontFires, FrontGets, FrontHears, FrontRow, IsForFront, IsForNode, IsFrontEnv, IsNobody, IsNodeEnv, IsUnheard, Kind, MayRestOn, Message, Move, MsgFault, Node, NodeEnv, NodeGets, Offered, Place, Rec, ReturnedBy, Row, Rules, Said as Segment, Seen, SegFault, Setting, SpellsMessage, Station, ToCluster, Turn, Was, client_begins, client_does, client_injects, client_opens, client_rule, content_said, decoded, decoded_message, event_seen, front_does, front_rule, inject_seen, is_no_node, kind_of, letter, listed, node_does, node_read, node_rule, nothing_said, packet_seen, reads_first, rows_of, seen_in, stands, tale_at}
+use Rattle.lard_law_view.specs.Prelude.{Acknowledged, AskedBy, BackRow, Client, ClientBlock, ClientRules, Completed, Conn, Content, EndedBy, EndpointParts, Fires, Forwarded, Front, FrontAdmits, FrontConn, FrontEnv, FrontFires, FrontGets, FrontHears, FrontRow, IsForFront, IsForNode, IsFrontEnv, IsNobody, IsNodeEnv, IsUnheard, Kind, Leaves, MayRestOn, Message, Move, MsgFault, Node, NodeEnv, NodeGets, Offered, Place, Rec, ReturnedBy, Row, Rules, Said as Segment, Seen, SegFault, Setting, SpellsMessage, Station, ToCluster, Turn, Was, client_begins, client_does, client_injects, client_opens, client_rule, content_said, decoded, decoded_message, event_seen, front_does, front_rule, inject_seen, is_no_node, kind_of, letter, listed, node_does, node_read, node_rule, nothing_said, packet_seen, reads_first, rows_of, seen_in, stands, tale_at}
 use Rattle.lard_law_view.proofs.EachClient.{client_seen, each-client, of-client}
 use Rattle.lard_law_view.proofs.EachFront.{FrontComes, admission, each-front, of-front}
 use Rattle.lard_law_connections.specs.Motion.{EachIsTold, above}
@@ -30,7 +30,7 @@ use Rattle.lard_history.proofs.Seeing.{other_number, same_number}
 use Rattle.lard_journal.specs.declared.rec.Rec.TheVariants as rec
 use Rattle.lard_message.specs.declared.kind.Kind.TheVariants as kind
 use Rattle.lard_message.specs.declared.message.Body.TheVariants as body
-use Rattle.lard_rules.proofs.NodeCases.{IsInItsEpoch}
+use Rattle.lard_rules.proofs.NodeCases.{IsInItsEpoch, IsOfItsEpoch}
 use Rattle.lard_rules.specs.Node as node
 
 -- what is known of a connection's way
@@ -289,6 +289,7 @@ module _ (k : Setting) (x : Conn) (n : ℕ) where
   -- the move without the record of the job
   behind-read : (r : ℕ) (path : List ℕ) (v : Move) → Helps x (reads_first (rec.Read n n x.c r path) v) → Helps x v
   behind-read r path v help = record {
+    new = help.new;
     number = help.number;
     sound = help.sound;
     placed = help.placed;
@@ -320,7 +321,10 @@ module _ (k : Setting) (x : Conn) (n : ℕ) where
         ∙ this-hears comes.came.bytes None (ap (epoch_if is_offer) comes.came.spells)
     no-offers (Content from r) comes other = ap (picked (epoch_offered n)) comes.came.seen
     no-offers (Completed r path) comes other = ap (picked (epoch_offered n)) comes
+    no-offers (Acknowledged false) comes other = ap (picked (epoch_offered n)) comes.seen ∙ this-hears comes.bytes None (ap (epoch_if is_offer) comes.spells)
+    no-offers (Acknowledged true) comes other = ap (picked (epoch_offered n)) comes.seen ∙ this-hears comes.bytes None (ap (epoch_if is_offer) comes.spells)
     no-offers Fires comes other = ap (picked (epoch_offered n)) comes.seen
+    no-offers Leaves comes other = ap (picked (epoch_offered n)) comes.0
     no-offers g comes other = ap (picked (epoch_offered n)) comes.seen ∙ this-hears comes.bytes None (ap (epoch_if is_offer) comes.spells)
 
     heads-at : (d : node.NodeDeed) → (node_does x n heads d).heads ≡ heads
@@ -329,7 +333,7 @@ module _ (k : Setting) (x : Conn) (n : ℕ) where
     heads-at (node.Does y) = refl
 
     module _ (may : MayRestOn IsPlaced x) (way : Way x) (first : Each IsFirst heads) (others : (m : ℕ) → m ≢ n → picked (epoch_offered m) heads ≡ []) where
-      goes-nodes : (g : NodeGets) → IsInItsEpoch env (x.part.nodes n) g → NodeComes x n epoch heads g → Helps x (node_goes x n env heads g)
+      goes-nodes : (g : NodeGets) → IsOfItsEpoch env (x.part.nodes n) g → NodeComes x n epoch heads g → Helps x (node_goes x n env heads g)
           → NodesGo k.nodes x (node_goes x n env heads g)
       goes-nodes (Offered parts) at comes help =
           turns.offered-go k x may.given way.nodes n epoch env is heads first others parts
@@ -351,7 +355,7 @@ module _ (k : Setting) (x : Conn) (n : ℕ) where
       (λ from bytes. (packet-apart from bytes, (tt, tt), (tt, tt), others-unheard from bytes)) (tt, tt, tt, λ m other. refl)
       ((tt, tt), ((tt, tt), tt), (tt, tt), λ m other. refl) epoch heads g comes in (
         node-front (job_notes x.c n g) heads seen.0 seen.1 way.front (node_rule env (x.part.nodes n) g) help,
-        goes-nodes epoch env is heads may way seen.2 seen.3 g at comes help,
+        goes-nodes epoch env is heads may way seen.2 seen.3 g at.0 comes help,
       )
 
   -- ---- what it does for another one

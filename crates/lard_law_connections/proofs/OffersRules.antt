@@ -1,25 +1,23 @@
 -- What each rule of the front end says, where its connection agrees.
-use Rattle.lard_law_connections.proofs.PlacesFrontMessages.{no-give}
 use Rattle.lard_law_connections.proofs.PlacesTurns.{IsPlaced}
-use Rattle.std.proofs.Common.{◌≡◌, ◌≤◌, ◌^◌, ℕ, List, [], ◌∷◌, map, Option, Some, None, refl, sym, subst, inl}
+use Rattle.std.proofs.Common.{◌≡◌, ◌≤◌, ◌^◌, ℕ, Bool, List, [], ◌∷◌, map, Option, Some, None, refl, sym, subst, inl}
 use Rattle.std.specs.List.{fold}
-use Rattle.lard_law_view.specs.Prelude.{AreSent, Client, Conn, EndpointParts, FilesAt, Front, FrontConn, FrontDeed, FrontEnv, FrontGets, FrontPart, FrontRow, FrontRules, IsConnNumber, IsConnSound, IsFrontEnv, Kept, Move, Node, Place, Said, Seen, Setting, Station, Talk, Verdict, Was, back_part, back_rest, does_first, fires_at, front_begun, front_does, front_rest, front_rule, given_sent, hears_at, holds, placed, returned_row, seen_step, sent_of, serving, serving_settled, tale_at, tale_step, told_on}
+use Rattle.lard_law_view.specs.Prelude.{AreSent, Client, Conn, EndpointParts, FilesAt, Front, FrontConn, FrontDeed, FrontEnv, FrontGets, FrontPart, FrontRow, FrontRules, FrontTurn, IsConnNumber, IsConnSound, IsFrontEnv, Kept, Move, Node, Place, Said, Seen, Setting, Station, Stream, Talk, Verdict, Was, back_part, back_rest, does_first, fires_at, front_begun, front_does, front_rest, front_rule, given_sent, handed_off, hears_at, holds, placed, returned_row, seen_step, sent_of, serving, serving_settled, tale_at, tale_step, told_on}
 use Rattle.lard_law_connections.specs.BytesAgreement.{IsOpen, IsTruthful}
-use Rattle.lard_law_connections.specs.BytesKeeping.{FrontDeedKeeps, IsFrontTalk}
+use Rattle.lard_law_connections.specs.BytesKeeping.{FrontDeedKeeps, FrontTurned, IsFrontTalk}
 use Rattle.lard_law_connections.proofs.BytesClientMoves.{open-at}
 use Rattle.lard_law_connections.proofs.BytesFrontMessages.{where-opened}
 use Rattle.lard_law_connections.proofs.BytesFrontMoves.{rule-agrees, talk-of}
 use Rattle.lard_law_connections.proofs.BytesFronts.{CameBack, IsOurs, RowIsOurs}
-use Rattle.lard_law_connections.proofs.BytesReturns.{refused-keeps}
+use Rattle.lard_law_connections.proofs.BytesReturns.{given-keeps, refused-keeps}
 use Rattle.lard_law_connections.proofs.BytesTold.{Bytes, bytes_of}
 use Rattle.lard_law_connections.proofs.OffersParts.{Tells}
 use Rattle.lard_law_connections.proofs.OffersSaying.{AllMayGo, AreSaid, MayGo, handed-says, other-goes, replies-go}
 use Rattle.lard_law_view.proofs.Frames.{Owed}
 use Rattle.lard_law_view.proofs.Rows.{tale_before}
 use Rattle.lard_dispatch.specs.declared.dispatch.First.TheVariants as first
-use Rattle.lard_rules.specs.Front.{Does, Drops, Says, message}
+use Rattle.lard_rules.specs.Front.{Does, Drops, Says, message, stands_first}
 use Rattle.lard_handoff_front.specs.declared.row.FrontConn.TheVariants as stage
-use Rattle.lard_history.proofs.Each.{Each}
 use Rattle.lard_message.specs.declared.message.Body.TheVariants as body
 use Rattle.lard_law_view.proofs.EachFront.{FrontComes, HasBack, admission, each-front, of-front}
 use Rattle.lard_rules.proofs.FrontCases.{IsBack, IsInStage, KeptByFront, KeptByReturn, KeptBySegment, front-keeps, hands_off}
@@ -29,6 +27,20 @@ abbrev pub SaysTruth : FilesAt → Conn → Move → Type 0
 SaysTruth files x v = AreSaid files x (bytes_of (told_on x.c (tale_before x v) v.said.notes)) v.place v.said.segments v.said.messages
 
 -- ---- the front end
+
+-- a turn without the message that stands first
+behind-first : (files : FilesAt) (c : ℕ) (w out : Stream) (vs : List Verdict) (r : Bool) (part : FrontPart) (said : Place × List ℕ) (turn : FrontTurn)
+    → FrontTurned files c w out vs r part (stands_first [] (said ∷ []) turn) → FrontTurned files c w out vs r part turn
+behind-first files c w out vs r part said turn h = record {
+  out_after = h.out_after;
+  vs_after = h.vs_after;
+  longer = h.longer;
+  says = h.says;
+  agrees = h.agrees;
+  noted = h.noted;
+  sent = h.sent;
+  said = h.said.1;
+}
 
 -- what is told before the notes of whatever it does
 told-behind : (l : Talk) (x : Conn) (heads : List Seen) → Tells l.w l.out l.vs (fold (seen_step (tale_step x.c)) (tale_at x) heads) → (d : FrontDeed)
@@ -51,16 +63,25 @@ module _ (k : Setting) (small : k.stream ≤ 2 ^ 30) (x : Conn) (number : IsConn
     abbrev Keeps : FrontDeed → Type 0
     Keeps d = FrontDeedKeeps k.files x.c l.w l.out l.vs l.was_reset d
 
-    -- it says nothing to nodes
-    abbrev IsMute : FrontDeed → Type 0
-    IsMute Drops = Unit {0}
-    IsMute (Says turn) = turn.messages ≡ []
-    IsMute (Does did) = did.turn.messages ≡ []
+    -- it says this alone to nodes
+    abbrev SaysOnly : List (Place × List ℕ) → FrontDeed → Type 0
+    SaysOnly said Drops = Unit {0}
+    SaysOnly said (Says turn) = turn.messages ≡ said
+    SaysOnly said (Does did) = did.turn.messages ≡ said
 
-    mute-speaks : (d : FrontDeed) → IsMute d → Keeps d → Speaks d
-    mute-speaks Drops m t = (tt, tt)
-    mute-speaks (Says turn) m t = (replies-go k.files x _ x.c l.w l.out l.was_reset turn.segments t.1, subst (Each _) (sym m) tt)
-    mute-speaks (Does did) m t = (replies-go k.files x _ x.c l.w t.out_after _ did.turn.segments t.sent, subst (Each _) (sym m) tt)
+    only-speaks : (said : List (Place × List ℕ)) → ((b : Bytes) → AllMayGo k.files x b Front said) → (d : FrontDeed) → SaysOnly said d → Keeps d → Speaks d
+    only-speaks said may Drops m t = (tt, tt)
+    only-speaks said may (Says turn) m t = (
+      replies-go k.files x _ x.c l.w l.out l.was_reset turn.segments t.1,
+      subst (AllMayGo k.files x (bytes_of (told_on x.c (tale_before x (front_does x heads (Says turn))) turn.notes)) Front) (sym m) (may _),
+    )
+    only-speaks said may (Does did) m t = (
+      replies-go k.files x _ x.c l.w t.out_after _ did.turn.segments t.sent,
+      subst (AllMayGo k.files x (bytes_of (told_on x.c (tale_before x (front_does x heads (Does did))) did.turn.notes)) Front) (sym m) (may _),
+    )
+
+    mute-speaks : (d : FrontDeed) → SaysOnly [] d → Keeps d → Speaks d
+    mute-speaks = only-speaks [] (λ b. tt)
 
     -- what it does agrees where the connection is the front end's
     abbrev pub Tells_so : FrontDeed → Type 0
@@ -111,7 +132,24 @@ module _ (k : Setting) (small : k.stream ≤ 2 ^ 30) (x : Conn) (number : IsConn
     by-return : IsPlaced x → (n epoch : ℕ) (given : Option EndpointParts) → HasBack x n epoch given heads → (row : FrontRow) (parts : EndpointParts)
         → IsBack p n epoch given row parts
         → KeptByReturn env p (given_sent env.serve.c n epoch given) row parts (CameBack env l.w l.out l.vs l.was_reset p) Tells_so
-    by-return at_place n epoch (Some q) comes row parts back = absurd (no-give x at_place n epoch q comes.bytes comes.was comes.spells)
+    by-return at_place n epoch (Some g) comes row parts back =
+        let q : FrontPart = back_part p row parts in
+        let r : FrontRow = returned_row parts row in
+        let said : List (Place × List ℕ) = given_sent env.serve.c n epoch (Some g) in
+        let may : (b : Bytes) → AllMayGo k.files x b Front said = λ b. (given-goes b n env.serve.c epoch, tt) in
+        let kept = given-keeps k small x s there env is l pend o talk number at_place n epoch g heads comes row parts back in
+        record {
+          reads = kept.reads;
+          holds = λ v came keeps. only-speaks said may (does_first [] said (holds q r (back_rest parts) (serving_settled env.serve v))) refl (kept.holds v came);
+          hands = λ v path choice came is keeps.
+              let d : FrontDeed = does_first [] said (Does (placed env q r (back_rest parts) v path (first.Go choice))) in
+              let handed = handed-says k.files x number l.w l.out l.vs l.was_reset talk.stream (tale_before x (front_does x heads d)) (told d) env r v path choice
+              (behind-first k.files x.c l.w l.out l.vs l.was_reset (handed_off env r v path choice).0 (Node n, message env.serve.c epoch body.Given) (handed_off env r v path choice).1
+              (kept.hands v path choice came is)) in
+              (handed.0, (given-goes _ n env.serve.c epoch, handed.1));
+          waits = λ v path came is keeps.
+              only-speaks said may (does_first [] said (Does (placed env q r (back_rest parts) v path first.Waits))) refl (kept.waits v path came is);
+        }
     by-return at_place n epoch None comes row parts back =
         let q : FrontPart = back_part p row parts in
         let r : FrontRow = returned_row parts row in

@@ -45,6 +45,6 @@ client-owes x heads quiet held s given turn =
           (owns-append c w (notes ++ sends ++ []) [] (owns-append c w (notes ++ sends) [] (owns-append c w notes sends (plain-owns c w notes plain) (client-owns c c _ given.1.segments)) tt) tt)
           (plain-owns c _ timers quiet_timers);
       sits = subst (λ (u : Owning). Sits u x.part.nodes x.part.front.row) (sym then) held.sits;
-      grows = record { nodes = λ n. back-still (x.part.nodes n).row; refusals = λ n e h. h; front = front-still x.part.nodes x.part.front.row };
+      grows = record { nodes = λ n. back-still (x.part.nodes n).row; refusals = λ n e h. h; returns = λ n h. h; front = front-still x.part.nodes x.part.front.row };
       letters = Each-append (LetterMay q) (map (letter (Client c)) given.1.segments) [] (client-letters q c given.1.segments) tt;
     }

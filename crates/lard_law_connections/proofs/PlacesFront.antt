@@ -53,14 +53,14 @@ here-grows x row st at none next le = subst (λ (o : Option FrontRow). FrontGrow
 pub held-home : (x : Conn) → IsPlaced x → (row : FrontRow) (b : ControlBlock) → IsInStage x.part.front row (stage.Held b) → IsHomeAt x row (owning (tale_at x))
 held-home x placed row b at =
     let h = sits-in x placed row (stage.Held b) at in
-    let early = early-at x placed row at.0 (stage.Held b) at.1 in
+    let early = early-at x placed row at.0 in
     record { odd = h.0.0; small = omega (arith, early); home = h.0.1; ended = h.1; grows = here-grows x row (stage.Held b) at (λ n e o. o) }
 
 pub waits-home : (x : Conn) → IsPlaced x → (row : FrontRow) (b : ControlBlock) → IsInStage x.part.front row (stage.Waiting b)
     → IsHomeAt x row (owning (tale_at x))
 waits-home x placed row b at =
     let h = sits-in x placed row (stage.Waiting b) at in
-    let early = early-at x placed row at.0 (stage.Waiting b) at.1 in
+    let early = early-at x placed row at.0 in
     record { odd = h.0.0; small = omega (arith, early); home = h.0.1; ended = h.1; grows = here-grows x row (stage.Waiting b) at (λ n e o. o) }
 
 -- who owns it where the front end reads on: a connection that was away is taken in the next epoch
@@ -134,7 +134,7 @@ module _ (x : Conn) (heads : List Seen) (quiet : IsQuiet x heads) where
         same = quiet.same;
         rows = turned-owns x.c Front w v s _ t timers;
         sits = subst (λ (u : Owning). Sits u x.part.nodes part.row) (sym (turned-after x.c Front w v s _ t timers)) sits;
-        grows = record { nodes = λ n. back-still (x.part.nodes n).row; refusals = λ n e h. h; front = grows };
+        grows = record { nodes = λ n. back-still (x.part.nodes n).row; refusals = λ n e h. h; returns = λ n h. h; front = grows };
         letters = turn-letters q Front x.c w v s t tells;
       }
 

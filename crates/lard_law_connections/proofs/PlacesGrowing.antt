@@ -1,5 +1,5 @@
 -- What was said of a packet stays so while the front end and the nodes go on.
-use Rattle.std.proofs.Common.{◌≡◌, ◌⊎◌, ℕ, ◌≤◌, List, Option, Some, None, inl, inr, ⊎_elim, sym, ◌∙◌, arith}
+use Rattle.std.proofs.Common.{◌≡◌, ◌⊎◌, ℕ, ◌≤◌, List, Option, Some, None, true, is_some, inl, inr, ⊎_elim, sym, ◌∙◌, arith}
 use Rattle.lard_law_view.specs.Prelude.{BackRow, Front, FrontRow, Kind, Letter, Node, NodePart, Part, Place}
 use Rattle.lard_law_connections.specs.Places.{FrontSaid, HasEnded, Head, HasStay, IsDecided, IsLeft, IsOffered, IsOver, IsPast, IsOfOther, IsRefusalKnown, IsRefusalTold, IsRefusedBy, LetterMay, MaySay, NodeSaid, Offers, OtherSaid}
 use Rattle.lard_history.proofs.Each.{Each, Each-weaker}
@@ -24,9 +24,14 @@ FrontGrows nodes (Some row) (Some next) = (row.epoch.0 ≤ next.epoch.0) × ((n 
 abbrev pub KeepsRefusals : NodePart → NodePart → Type 0
 KeepsRefusals p q = (e : ℕ) → IsRefusedBy e p → IsRefusedBy e q
 
+-- and what it gave back was given back
+abbrev pub KeepsReturn : NodePart → NodePart → Type 0
+KeepsReturn p q = is_some p.beside.returned ≡ true → is_some q.beside.returned ≡ true
+
 pub record Grows (p q : Part) : Type 0 where
   pub nodes : (n : ℕ) → BackGrows (p.nodes n).row (q.nodes n).row
   pub refusals : (n : ℕ) → KeepsRefusals (p.nodes n) (q.nodes n)
+  pub returns : (n : ℕ) → KeepsReturn (p.nodes n) (q.nodes n)
   pub front : FrontGrows q.nodes p.front.row q.front.row
 
 pub back-still : (o : Option BackRow) → BackGrows o o
@@ -38,7 +43,7 @@ front-still nodes None = tt
 front-still nodes (Some row) = (omega arith, λ n e offers. inl offers)
 
 pub grows-still : (p : Part) → Grows p p
-grows-still p = record { nodes = λ n. back-still (p.nodes n).row; refusals = λ n e h. h; front = front-still p.nodes p.front.row }
+grows-still p = record { nodes = λ n. back-still (p.nodes n).row; refusals = λ n e h. h; returns = λ n h. h; front = front-still p.nodes p.front.row }
 
 -- ---- what was said stays so
 
@@ -117,8 +122,8 @@ node_said-grows : (p q : Part) (n e : ℕ) (k : Kind) → Grows p q → NodeSaid
 node_said-grows p q n e kind.Offer g h = absurd h
 node_said-grows p q n e kind.Taken g h = decided-grows e (p.nodes n).row (q.nodes n).row (g.nodes n) h
 node_said-grows p q n e kind.Ended g h = over-grows e (p.nodes n).row (q.nodes n).row (g.nodes n) h
+node_said-grows p q n e kind.Give g h = (over-grows e (p.nodes n).row (q.nodes n).row (g.nodes n) h.0, g.returns n h.1)
 node_said-grows p q n e kind.Refused g h = told-grows p q n e g h
-node_said-grows p q n e kind.Give g h = absurd h
 node_said-grows p q n e _ g h = tt
 
 other_said-grows : (o r : Option BackRow) (e : ℕ) (k : Kind) → BackGrows o r → OtherSaid o e k → OtherSaid r e k

@@ -62,9 +62,9 @@ module _ (k : Setting) (Given : Conn → Type 0) where
   does-owe : (x : Conn) (n epoch : ℕ) (env : NodeEnv) (heads : List Seen) (g : NodeGets) → IsNodeEnv k x.c n epoch env → IsInItsEpoch env (x.part.nodes n) g
       → NodeComes x n epoch heads g → Owing x (node_goes x n env heads g)
   does-owe x n epoch env heads (Completed r path) is at comes m h =
-      let o = rule-owes k x heads (heads-quiet x n epoch heads (Completed r path) comes) h m.sound n epoch env is (Completed r path) at comes in
+      let o = rule-owes k x heads (heads-quiet x n epoch heads (Completed r path) comes) h m.sound n epoch env is (Completed r path) at.0 comes in
       record { heads = o.heads; same = o.same; rows = (tt, o.rows); sits = o.sits; grows = o.grows; letters = o.letters }
-  does-owe x n epoch env heads g is at comes m h = rule-owes k x heads (heads-quiet x n epoch heads g comes) h m.sound n epoch env is g at comes
+  does-owe x n epoch env heads g is at comes m h = rule-owes k x heads (heads-quiet x n epoch heads g comes) h m.sound n epoch env is g at.0 comes
 
   -- a content says nothing of where it is
   content-tells : (x : Conn) (n to epoch r : ℕ) (path : List ℕ) → Each (Tells x.part (Node n)) (content_said k n to x.c epoch r path).messages

@@ -1,9 +1,9 @@
 -- What a turn of a node owes.
-use Rattle.std.proofs.Common.{◌≡◌, ℕ, List, [], ◌∷◌, ◌++◌, Option, Some, None, inl, inr, refl, sym, ap, ◌∙◌, subst, arith}
-use Rattle.lard_law_view.specs.Prelude.{Asked, BackConn, BackRow, Client, Conn, Ending, Front, IsOnceAway, IsMachine, Node, NodeEnv, NodePart, Part, Place, Rec, Seen, Turn, TurnSaid, Want, Work, all_sent, asked_sent, by_node, ended_sent, gave_by, kept_after, named_records, node_does, node_put_back, nothing_said, stands, tale_at, turn_by, wants_sent, with_node}
-use Rattle.lard_law_connections.specs.Places.{IsDecided, IsEven, IsOver, MaySay, Owning, Owns, Sits, owning}
+use Rattle.std.proofs.Common.{◌≡◌, ℕ, List, [], ◌∷◌, ◌++◌, Option, Some, None, inl, inr, refl, sym, ap, ◌∙◌, subst, arith, is_some}
+use Rattle.lard_law_view.specs.Prelude.{Asked, BackConn, BackRow, Client, Conn, Ending, Front, IsMachine, Node, NodeEnv, NodePart, Part, Place, Rec, Seen, Turn, TurnSaid, Want, Work, all_sent, asked_sent, by_node, ended_sent, gave_by, give_kept, gives_back, kept_after, kept_back, named_records, node_does, node_put_back, nothing_said, sent_of, stands, tale_at, turn_back, turn_by, wants_sent, with_node}
+use Rattle.lard_law_connections.specs.Places.{IsDecided, IsEarlyEpoch, IsEven, IsGivenBack, IsOver, MaySay, Owning, Owns, Sits, owning}
 use Rattle.lard_law_connections.proofs.PlacesFront.{IsQuiet, Tells, turn-letters}
-use Rattle.lard_law_connections.proofs.PlacesGrowing.{BackGrows, KeepsRefusals, back-still, front-still, grows-still}
+use Rattle.lard_law_connections.proofs.PlacesGrowing.{BackGrows, KeepsRefusals, KeepsReturn, back-still, front-still, grows-still}
 use Rattle.lard_law_connections.proofs.PlacesHeads.{spelled-head, spelled-some}
 use Rattle.lard_law_connections.proofs.PlacesRows.{IsPlain, OwnsBy, after_all, plain-after, plain-owns}
 use Rattle.lard_law_connections.proofs.PlacesTurns.{IsPlaced, Owes, Turned, timers-plain, turned-after, turned-owns}
@@ -13,6 +13,7 @@ use Rattle.lard_history.proofs.Each.{Each, Each-append}
 use Rattle.lard_rules.specs.Node.{Drops, Says, Does}
 use Rattle.lard_rules.specs.declared.places.Ending.TheVariants as ending
 use Rattle.lard_law_view.proofs.EndpointSends.{AllTo}
+use Rattle.lard_handoff_back.specs.Table.{Beside}
 
 module _ (x : Conn) (heads : List Seen) (quiet : IsQuiet x heads) where
   abbrev w : Owning
@@ -46,8 +47,9 @@ module _ (x : Conn) (heads : List Seen) (quiet : IsQuiet x heads) where
   -- ---- one node's part changes
 
   pub node-owes : (n : ℕ) (s : TurnSaid) (q : NodePart) (v : Owning) → Turned x.c (Node n) w s v → Sits v (node_put_back x.part.nodes n q) x.part.front.row → BackGrows (x.part.nodes n).row q.row
-      → KeepsRefusals (x.part.nodes n) q → Each (Tells (with_node x.part n q) (Node n)) s.messages → Owes x (record { place = Node n; heads = heads; said = s; part = with_node x.part n q })
-  node-owes n s q v t sits grows refusals tells =
+      → KeepsRefusals (x.part.nodes n) q → KeepsReturn (x.part.nodes n) q → Each (Tells (with_node x.part n q) (Node n)) s.messages
+      → Owes x (record { place = Node n; heads = heads; said = s; part = with_node x.part n q })
+  node-owes n s q v t sits grows refusals returns tells =
       let p : Part = with_node x.part n q in
       let timers = timers-plain (Node n) x.c x.part p in
       record {
@@ -58,6 +60,7 @@ module _ (x : Conn) (heads : List Seen) (quiet : IsQuiet x heads) where
         grows = record {
           nodes = put-each x.part.nodes n q (λ m r. BackGrows (x.part.nodes m).row r.row) grows (λ m other. back-still (x.part.nodes m).row);
           refusals = put-each x.part.nodes n q (λ m r. KeepsRefusals (x.part.nodes m) r) refusals (λ m other e h. h);
+          returns = put-each x.part.nodes n q (λ m r. KeepsReturn (x.part.nodes m) r) returns (λ m other h. h);
           front = front-still p.nodes x.part.front.row;
         };
         letters = turn-letters p (Node n) x.c w v s t tells;
@@ -68,7 +71,7 @@ module _ (x : Conn) (heads : List Seen) (quiet : IsQuiet x heads) where
 -- it sits at node n in whatever stage of this epoch
 pub record CanSit (x : Conn) (n e : ℕ) : Type 0 where
   pub even : IsEven e
-  pub early : IsOnceAway e
+  pub early : IsEarlyEpoch e
   pub sits : (v : Owning) (q : NodePart) (st : BackConn) → q.row ≡ Some (record { stage = st; epoch = record { 0 = e } }) → Owns n st v.owner → v.epoch ≡ e → Sits v (node_put_back x.part.nodes n q) x.part.front.row
   pub grows : (st : BackConn) → BackGrows (x.part.nodes n).row (Some (record { stage = st; epoch = record { 0 = e } }))
   pub refusals : (q : NodePart) (st : BackConn) → q.row ≡ Some (record { stage = st; epoch = record { 0 = e } })
@@ -115,11 +118,11 @@ module _ (x : Conn) (heads : List Seen) (quiet : IsQuiet x heads) (n : ℕ) (env
   put_row st = record { stage = st; epoch = record { 0 = env.epoch } }
 
   -- What was in hand is put back: it stays, or it ended. The node owns it behind its notes.
-  pub rests-owe : (part : NodePart) → part.beside.refused ≡ (x.part.nodes n).beside.refused
+  pub rests-owe : (part : NodePart) → part.beside ≡ (x.part.nodes n).beside
       → (before : List (Place × List ℕ)) (k : Work) (given : Ending × Turn) (u : Owning) → u.owner ≡ Some (Node n) → u.epoch ≡ env.epoch
       → OwnsBy x.c owned (named_records given.1.notes) → after_all owned (named_records given.1.notes) ≡ u → AllTo (Client env.serve.c) given.1.segments
       → Each (λ m. IsMachine m.0) before
-      → ((q : NodePart) (st : BackConn) → q.row ≡ Some (put_row st) → q.beside.refused ≡ (x.part.nodes n).beside.refused → Each (Tells (with_node x.part n q) (Node n)) before)
+      → ((q : NodePart) (st : BackConn) → q.row ≡ Some (put_row st) → q.beside ≡ (x.part.nodes n).beside → Each (Tells (with_node x.part n q) (Node n)) before)
       → Owes x (node_does x n heads (Does (kept_after env part k given.0, turn_by env before k given)))
   rests-owe part same before k (ending.Here b count, turn) u mine epoch notes then to machines tells =
       let q : NodePart = kept_after env part k (ending.Here b count) in
@@ -132,7 +135,7 @@ module _ (x : Conn) (heads : List Seen) (quiet : IsQuiet x heads) (n : ℕ) (env
         messages = Each-append (λ m. IsMachine m.0) msgs [] (all-machines before k machines) tt;
         then = then;
       })
-      (can.sits u q (back.Here b) refl mine epoch) (can.grows (back.Here b)) (can.refusals q (back.Here b) refl same)
+      (can.sits u q (back.Here b) refl mine epoch) (can.grows (back.Here b)) (can.refusals q (back.Here b) refl (ap (λ (b : Beside). b.refused) same)) (λ h. ap (λ (b : Beside). is_some b.returned) same ∙ h)
       (Each-append (Tells (with_node x.part n q) (Node n)) msgs [] (all-tells (with_node x.part n q) before k (put-decided q (back.Here b) refl) (tells q (back.Here b) refl same)) tt)
   rests-owe part same before k (ending.Over last, turn) u mine epoch notes then to machines tells =
       let q : NodePart = kept_after env part k (ending.Over last) in
@@ -148,9 +151,38 @@ module _ (x : Conn) (heads : List Seen) (quiet : IsQuiet x heads) (n : ℕ) (env
         messages = Each-append (λ m. IsMachine m.0) msgs end (all-machines before k machines) (tt, tt);
         then = ap (λ (o : Owning). after_all o (gave_by env (ending.Over last))) then;
       })
-      (can.sits v q back.Ended refl refl epoch) (can.grows back.Ended) (can.refusals q back.Ended refl same)
+      (can.sits v q back.Ended refl refl epoch) (can.grows back.Ended) (can.refusals q back.Ended refl (ap (λ (b : Beside). b.refused) same)) (λ h. ap (λ (b : Beside). is_some b.returned) same ∙ h)
       (Each-append (Tells p (Node n)) msgs end (all-tells p before k (put-decided q back.Ended refl) (tells q back.Ended refl same)) (
         subst (λ h. MaySay p (Node n) Front h) (sym (spelled-head _ (omega (arith, can.early))))
             (subst (λ (r : NodePart). IsOver env.epoch r.row) (sym (put-same x.part.nodes n q)) (omega arith, λ same. tt)),
+        tt,
+      ))
+
+  -- It goes back: its endpoint is frozen before it says anything, and the Give is told.
+  pub gives-owe : (part : NodePart) → part.beside ≡ (x.part.nodes n).beside → (before : List (Place × List ℕ)) (k : Work) (u : Owning)
+      → u.owner ≡ Some (Node n) → u.epoch ≡ env.epoch
+      → OwnsBy x.c owned (named_records k.service.notes) → after_all owned (named_records k.service.notes) ≡ u
+      → Each (λ m. IsMachine m.0) before
+      → ((q : NodePart) (st : BackConn) → q.row ≡ Some (put_row st) → q.beside.refused ≡ (x.part.nodes n).beside.refused → Each (Tells (with_node x.part n q) (Node n)) before)
+      → Owes x (node_does x n heads (gives_back env part before k))
+  gives-owe part same before k u mine epoch notes then machines tells =
+      let q : NodePart = kept_back env part k in
+      let p : Part = with_node x.part n q in
+      let msgs : List (Place × List ℕ) = all_sent env before k in
+      let give : List (Place × List ℕ) = sent_of (give_kept env k) ∷ [] in
+      let gave : List Rec = (turn_back env before k).gave in
+      let v : Owning = record u { owner = None } in
+      node-owes x heads quiet n (by_node (turn_back env before k)) q v
+      (record {
+        notes = notes;
+        segments = inr refl;
+        gave = subst (λ (o : Owning). OwnsBy x.c o gave) (sym then) ((number, mine ∙ ap (λ (m : ℕ). Some (Node m)) (sym node), epoch), tt);
+        messages = Each-append (λ m. IsMachine m.0) msgs give (all-machines before k machines) (tt, tt);
+        then = ap (λ (o : Owning). after_all o gave) then;
+      })
+      (can.sits v q back.Ended refl refl epoch) (can.grows back.Ended) (can.refusals q back.Ended refl (ap (λ (b : Beside). b.refused) same)) (λ h. refl)
+      (Each-append (Tells p (Node n)) msgs give (all-tells p before k (put-decided q back.Ended refl) (tells q back.Ended refl (ap (λ (b : Beside). b.refused) same))) (
+        subst (λ h. MaySay p (Node n) Front h) (sym (spelled-head _ (omega (arith, can.early))))
+            (subst (IsGivenBack env.epoch) (sym (put-same x.part.nodes n q)) ((omega arith, λ same. tt), refl)),
         tt,
       ))

@@ -1,16 +1,16 @@
 -- The rules of a node, one by one.
 use Rattle.std.proofs.Common.{◌≡◌, ◌≢◌, ◌⊎◌, ℕ, ◌<◌, ◌==◌, ◌&&◌, nat_lt, Bool, true, false, cond, List, [], ◌∷◌, ◌++◌, Option, Some, None, inr, ⊎_elim, refl, sym, ap, ◌∙◌, subst, arith, eqb-true, eq-eqb}
 use Rattle.std.proofs.lemmas.Bool.{ltb-true}
-use Rattle.lard_law_view.specs.Prelude.{BackConn, BackRow, Client, Conn, ControlBlock, Ending, EndpointParts, Epoch, Front, FrontConn, FrontRow, IsOnceAway, IsOnceOver, IsMachine, IsNodeEnv, Node, NodeDeed, NodeEnv, NodePart, Place, Rec, Seen, Setting, Stay, Turn, Work, goes_on, here, is_gone, kept_after, named_records, node_begins, node_does, node_put_back, offer_answer, reads_batch, serving_settled, state_of, taken_sent, tale_at, turn_by, with_node, with_work}
-use Rattle.lard_law_connections.specs.Places.{IsComing, IsDecided, IsEven, IsLeft, IsOffered, IsOfOther, IsPast, IsRowEarly, IsThere, IsReachedBy, MaySay, Offers, OthersArePast, Owning, Owns, Sits, StageSits, owning}
+use Rattle.lard_law_view.specs.Prelude.{BackConn, BackRow, Client, Conn, ControlBlock, Ending, EndpointParts, Epoch, Front, FrontConn, FrontRow, IsMachine, IsNodeEnv, Node, NodeDeed, NodeEnv, NodePart, Place, Rec, Seen, Setting, Stay, Turn, Work, gives_back, goes_on, here, is_gone, kept_after, named_records, node_begins, node_does, node_put_back, offer_answer, reads_batch, serving_settled, state_of, taken_sent, tale_at, turn_by, with_node, with_work}
+use Rattle.lard_law_connections.specs.Places.{IsComing, IsDecided, IsEarlyEpoch, IsEven, IsLeft, IsOfOther, IsOffered, IsPast, IsReachedBy, IsRefusalKnown, IsRowEarly, IsThere, MaySay, Offers, OthersArePast, Owning, Owns, Sits, StageSits, owning}
 use Rattle.lard_law_connections.proofs.PlacesFront.{IsQuiet, Tells}
 use Rattle.lard_law_connections.proofs.PlacesFrontRules.{there-decided}
 use Rattle.lard_law_connections.proofs.PlacesGrowing.{BackGrows, KeepsRefusals}
 use Rattle.lard_law_connections.proofs.PlacesHeads.{spelled-head}
 use Rattle.lard_law_connections.proofs.PlacesLoops.{batch-state, goes-notes, settled-is}
-use Rattle.lard_law_connections.proofs.PlacesNode.{CanSit, node-drops, node-says, rests-owe}
+use Rattle.lard_law_connections.proofs.PlacesNode.{CanSit, gives-owe, node-drops, node-says, rests-owe}
 use Rattle.lard_law_connections.proofs.PlacesRows.{IsPlain, OwnsBy, after_all, plain-after, plain-named, plain-owns}
-use Rattle.lard_law_connections.proofs.PlacesTurns.{IsPlaced, Owes, early-at, small-early}
+use Rattle.lard_law_connections.proofs.PlacesTurns.{IsPlaced, Owes, early-at}
 use Rattle.lard_law_view.proofs.Parts.{put-each, put-same}
 use Rattle.lard_handoff_back.specs.Leaving.{exceeds}
 use Rattle.lard_handoff_back.specs.declared.row.BackConn.TheVariants as back
@@ -19,16 +19,17 @@ use Rattle.lard_handoff_front.specs.declared.row.FrontConn.TheVariants as stage
 use Rattle.lard_history.proofs.Each.{Each, Each-append}
 use Rattle.lard_journal.specs.declared.rec.Rec.TheVariants as rec
 use Rattle.lard_rules.proofs.NodeCases.{IsHereWith, where-here}
+use Rattle.lard_rules.proofs.NodeCases as node
 use Rattle.lard_rules.specs.Node.{Drops, Says, Does}
 use Rattle.lard_law_view.proofs.EndpointSends.{AllTo}
 
 -- ---- where a node's row stands
 
 -- every row of a node is of a small epoch
-past-small : (e : ℕ) (o : Option BackRow) (row : BackRow) → IsOnceOver e → o ≡ Some row → IsPast e o → IsOnceOver row.epoch.0
+past-small : (e : ℕ) (o : Option BackRow) (row : BackRow) → IsEarlyEpoch e → o ≡ Some row → IsPast e o → IsEarlyEpoch row.epoch.0
 past-small e o row le is h = let past : IsPast e (Some row) = subst (IsPast e) is h in omega (arith, past.0, le)
 
-there-small : (n e : ℕ) (w : Owning) (o : Option BackRow) (row : BackRow) → IsOnceOver e → o ≡ Some row → IsThere n e w o → IsOnceOver row.epoch.0
+there-small : (n e : ℕ) (w : Owning) (o : Option BackRow) (row : BackRow) → IsEarlyEpoch e → o ≡ Some row → IsThere n e w o → IsEarlyEpoch row.epoch.0
 there-small n e w o row le is h = let there : IsThere n e w (Some row) = subst (IsThere n e w) is h in omega (arith, there.0, le)
 
 -- of the node to which it was offered, or of another one
@@ -56,22 +57,22 @@ module _ (x : Conn) (held : IsPlaced x) where
 
   -- ---- small epochs
 
-  row-small : (n : ℕ) (row : BackRow) → (nodes n).row ≡ Some row → (o : Option FrontRow) → Sits w nodes o → IsRowEarly o → IsOnceOver row.epoch.0
+  row-small : (n : ℕ) (row : BackRow) → (nodes n).row ≡ Some row → (o : Option FrontRow) → Sits w nodes o → IsRowEarly o → IsEarlyEpoch row.epoch.0
   row-small n row is None h early = past-small 0 (nodes n).row row (omega arith) is (h.1 n)
   row-small n row is (Some f) h early = go f.stage h.0 where
-    le : IsOnceOver f.epoch.0
-    le = small-early f.epoch.0 f.stage early
+    le : IsEarlyEpoch f.epoch.0
+    le = early
 
-    go : (st : FrontConn) → StageSits f.epoch.0 w nodes st → IsOnceOver row.epoch.0
+    go : (st : FrontConn) → StageSits f.epoch.0 w nodes st → IsEarlyEpoch row.epoch.0
     go (stage.Held b) s = past-small f.epoch.0 (nodes n).row row le is (s.1.1 n)
     go (stage.Waiting b) s = past-small f.epoch.0 (nodes n).row row le is (s.1.1 n)
     go stage.Lent s = absurd s
-    go (stage.Offering m d) s = by-node m n (IsOnceOver row.epoch.0)
+    go (stage.Offering m d) s = by-node m n (IsEarlyEpoch row.epoch.0)
         (λ same. ⊎_elim
         (λ (coming : IsComing f.epoch.0 w (nodes m).row). past-small f.epoch.0 (nodes m).row row le (subst (λ (j : ℕ). (nodes j).row ≡ Some row) same is) coming.2)
         (λ (there : IsThere m f.epoch.0 w (nodes m).row). there-small m f.epoch.0 w (nodes m).row row le (subst (λ (j : ℕ). (nodes j).row ≡ Some row) same is) there) s.3)
         (λ other. past-small f.epoch.0 (nodes n).row row le is (s.2 n other))
-    go (stage.Moved m d) s = by-node m n (IsOnceOver row.epoch.0)
+    go (stage.Moved m d) s = by-node m n (IsEarlyEpoch row.epoch.0)
         (λ same. there-small m f.epoch.0 w (nodes m).row row le (subst (λ (j : ℕ). (nodes j).row ≡ Some row) same is) s.3)
         (λ other. past-small f.epoch.0 (nodes n).row row le is (s.2 n other))
     go (stage.Closed last) s = past-small f.epoch.0 (nodes n).row row le is (s.1.1 n)
@@ -104,7 +105,7 @@ module _ (x : Conn) (held : IsPlaced x) where
       )
 
   has-there : (f : FrontRow) (n : ℕ) (row : BackRow) (b : ControlBlock) → x.part.front.row ≡ Some f → (nodes n).row ≡ Some row → row.stage ≡ back.Here b → (st : FrontConn) → f.stage ≡ st
-      → StageSits f.epoch.0 w nodes st → IsEven f.epoch.0 → IsOnceAway f.epoch.0 → OthersArePast n f.epoch.0 nodes → IsThere n f.epoch.0 w (nodes n).row
+      → StageSits f.epoch.0 w nodes st → IsEven f.epoch.0 → IsEarlyEpoch f.epoch.0 → OthersArePast n f.epoch.0 nodes → IsThere n f.epoch.0 w (nodes n).row
       → ((v : Owning) (ps : ℕ → NodePart) → OthersArePast n f.epoch.0 ps → IsThere n f.epoch.0 v (ps n).row → StageSits f.epoch.0 v ps st) → HasIt n row.epoch.0
   has-there f n row b found is at st stage_is s even early others there make =
       let t : IsThere n f.epoch.0 w (Some row) = subst (IsThere n f.epoch.0 w) is there in
@@ -113,7 +114,7 @@ module _ (x : Conn) (held : IsPlaced x) where
       record {
         can = record {
           even = subst IsEven (sym t.0) even;
-          early = subst IsOnceAway (sym t.0) early;
+          early = subst IsEarlyEpoch (sym t.0) early;
           sits = offering-sits f n row.epoch.0 found st stage_is s (sym t.0) past make;
           grows = λ c. subst (λ (o : Option BackRow). BackGrows o (Some (record { stage = c; epoch = record { 0 = row.epoch.0 } }))) (sym is)
               (omega arith, λ same left. absurd (subst IsLeft at left));
@@ -137,12 +138,12 @@ module _ (x : Conn) (held : IsPlaced x) where
     go (stage.Offering m d) e s = by-node m n (HasIt n row.epoch.0)
         (λ same. ⊎_elim
         (λ (coming : IsComing f.epoch.0 w (nodes m).row). absurd (no f.epoch.0 (subst (λ (j : ℕ). IsPast f.epoch.0 (nodes j).row) (sym same) coming.2)))
-        (λ (there : IsThere m f.epoch.0 w (nodes m).row). has-there f n row b found is at (stage.Offering m d) e s s.0 (early-at x held f found (stage.Offering m d) e) (subst (λ (j : ℕ). OthersArePast j f.epoch.0 nodes) (sym same) s.2)
+        (λ (there : IsThere m f.epoch.0 w (nodes m).row). has-there f n row b found is at (stage.Offering m d) e s s.0 (early-at x held f found) (subst (λ (j : ℕ). OthersArePast j f.epoch.0 nodes) (sym same) s.2)
         (subst (λ (j : ℕ). IsThere j f.epoch.0 w (nodes j).row) (sym same) there)
         (λ v ps others at_n. (s.0, s.1, subst (λ (j : ℕ). OthersArePast j f.epoch.0 ps) same others, inr (subst (λ (j : ℕ). IsThere j f.epoch.0 v (ps j).row) same at_n)))) s.3)
         (λ other. absurd (no f.epoch.0 (s.2 n other)))
     go (stage.Moved m d) e s = by-node m n (HasIt n row.epoch.0)
-        (λ same. has-there f n row b found is at (stage.Moved m d) e s s.0 (early-at x held f found (stage.Moved m d) e) (subst (λ (j : ℕ). OthersArePast j f.epoch.0 nodes) (sym same) s.2)
+        (λ same. has-there f n row b found is at (stage.Moved m d) e s s.0 (early-at x held f found) (subst (λ (j : ℕ). OthersArePast j f.epoch.0 nodes) (sym same) s.2)
         (subst (λ (j : ℕ). IsThere j f.epoch.0 w (nodes j).row) (sym same) s.3)
         (λ v ps others at_n. (s.0, s.1, subst (λ (j : ℕ). OthersArePast j f.epoch.0 ps) same others, subst (λ (j : ℕ). IsThere j f.epoch.0 v (ps j).row) same at_n)))
         (λ other. absurd (no f.epoch.0 (s.2 n other)))
@@ -220,25 +221,39 @@ module _ (k : Setting) (x : Conn) (heads : List Seen) (quiet : IsQuiet x heads) 
   dropped = node-drops x heads quiet held n
 
   -- a turn of a connection that is here
-  pub turn-owes : HasIt x held n env.epoch → (part : NodePart) → part.beside.refused ≡ ours.beside.refused
+  pub turn-owes : HasIt x held n env.epoch → (part : NodePart) → part.beside ≡ ours.beside
       → (before : List (Place × List ℕ)) (work : Work) (given : Ending × Turn) → Each IsPlain given.1.notes → AllTo (Client env.serve.c) given.1.segments
       → Each (λ m. IsMachine m.0) before
-      → ((q : NodePart) (st : BackConn) → q.row ≡ Some (record { stage = st; epoch = record { 0 = env.epoch } }) → q.beside.refused ≡ ours.beside.refused → Each (Tells (with_node x.part n q) (Node n)) before)
+      → ((q : NodePart) (st : BackConn) → q.row ≡ Some (record { stage = st; epoch = record { 0 = env.epoch } }) → q.beside ≡ ours.beside → Each (Tells (with_node x.part n q) (Node n)) before)
       → Owed (Does (kept_after env part work given.0, turn_by env before work given))
   turn-owes has part same before work given plain to machines tells =
       let notes : Each IsPlain (named_records given.1.notes) = plain-named given.1.notes plain in
       rests-owe x heads quiet n env is.number is.node has.can part same before work given owned has.owner has.epoch
       (plain-owns x.c owned (named_records given.1.notes) notes) (plain-after owned (named_records given.1.notes) notes) to machines tells
 
-  works-owe : HasIt x held n env.epoch → (part : NodePart) → part.beside.refused ≡ ours.beside.refused → (work : Work) → Each IsPlain work.service.notes
+  works-owe : HasIt x held n env.epoch → (part : NodePart) → part.beside ≡ ours.beside → (work : Work) → Each IsPlain work.service.notes
       → Owed (with_work env part [] work)
   works-owe has part same work plain =
       let done = settled-is env.serve work.service in
       turn-owes has part same [] work (serving_settled env.serve work.service) (subst (Each IsPlain) (sym done.notes) plain) done.to tt (λ q st e f. tt)
 
-  pub goes-owe : HasIt x held n env.epoch → (part : NodePart) → part.beside.refused ≡ ours.beside.refused → (work : Work) → Each IsPlain work.service.notes
+  pub goes-owe : HasIt x held n env.epoch → (part : NodePart) → part.beside ≡ ours.beside → (work : Work) → Each IsPlain work.service.notes
       → Owed (with_work env part [] (goes_on env work))
   goes-owe has part same work plain = works-owe has part same (goes_on env work) (goes-notes (Each IsPlain) plain-more env work plain)
+
+  -- and one that goes back
+  pub backs-owe : HasIt x held n env.epoch → (part : NodePart) → part.beside ≡ ours.beside → (work : Work) → Each IsPlain work.service.notes
+      → Owed (gives_back env part [] work)
+  backs-owe has part same work plain =
+      let notes : Each IsPlain (named_records work.service.notes) = plain-named work.service.notes plain in
+      gives-owe x heads quiet n env is.number is.node has.can part same [] work owned has.owner has.epoch
+      (plain-owns x.c owned (named_records work.service.notes) notes) (plain-after owned (named_records work.service.notes) notes) tt (λ q st e f. tt)
+
+  pub goes-turned : HasIt x held n env.epoch → (part : NodePart) → part.beside ≡ ours.beside → (work : Work) → Each IsPlain work.service.notes
+      → node.Turned Owed env part [] (goes_on env work)
+  goes-turned has part same work plain =
+      let noted : Each IsPlain (goes_on env work).service.notes = goes-notes (Each IsPlain) plain-more env work plain in
+      (λ rests. works-owe has part same (goes_on env work) noted, λ back. backs-owe has part same (goes_on env work) noted)
 
   -- ---- an Offer
 
@@ -275,7 +290,7 @@ module _ (k : Setting) (x : Conn) (heads : List Seen) (quiet : IsQuiet x heads) 
       took-owes parts
       (record {
         even = subst IsEven now s.0;
-        early = subst IsOnceAway now (early-at x held f found (stage.Offering n d) at);
+        early = subst IsEarlyEpoch now (early-at x held f found);
         sits = offering-sits x held f n env.epoch found (stage.Offering n d) at s now others (λ v ps past there. (s.0, s.1, past, inr there));
         grows = λ st. fresh ours.row st (subst (λ (e : ℕ). IsPast e ours.row) now coming.2);
         refusals = λ q st put kept e h. (subst (IsReachedBy e) (sym kept) h.0, subst (IsOfOther e) (sym put) (later ours.beside.refused e above h.0));
@@ -291,15 +306,19 @@ module _ (k : Setting) (x : Conn) (heads : List Seen) (quiet : IsQuiet x heads) 
 
   -- what an Offer that came says
   abbrev pub IsSaid : Type 0
-  IsSaid = IsDecided env.epoch ours.row ⊎ IsOffered n env.epoch x.part.front.row
+  IsSaid = IsDecided env.epoch ours.row ⊎ (IsOffered n env.epoch x.part.front.row ⊎ IsRefusalKnown x.part n env.epoch)
 
-  pub begins-owe : (parts : EndpointParts) → IsSaid → offer_answer env.epoch ours.row ≡ New
+  -- what exceeds each epoch that was refused was not refused
+  above-refused : (o : Option Epoch) → exceeds env.epoch o ≡ true → IsReachedBy env.epoch o → ⊥
+  above-refused None more h = h
+  above-refused (Some d) more h = let less : d.0 < env.epoch = ltb-true d.0 env.epoch more in omega (arith, less, h)
+
+  pub begins-owe : (parts : EndpointParts) → IsSaid → offer_answer env.epoch ours.row ≡ New → exceeds env.epoch ours.beside.refused ≡ true
       → Owed (with_work env ours (taken_sent env) (begun_work env parts))
-  begins-owe parts said new = by-row x.part.front.row refl
-      (⊎_elim (λ (d : IsDecided env.epoch ours.row). absurd (undecided d)) (λ (o : IsOffered n env.epoch x.part.front.row). o) said) where
-        above : exceeds env.epoch ours.beside.refused ≡ true
-        above = subst (λ (o : Option Epoch). exceeds env.epoch o ≡ true) (sym (held.unrefused n)) refl
-
+  begins-owe parts said new above = by-row x.part.front.row refl
+      (⊎_elim (λ (d : IsDecided env.epoch ours.row). absurd (undecided d))
+      (⊎_elim (λ (o : IsOffered n env.epoch x.part.front.row). o)
+      (λ (known : IsRefusalKnown x.part n env.epoch). absurd (above-refused ours.beside.refused above known.0.0))) said) where
         undecided : IsDecided env.epoch ours.row → ⊥
         undecided = not-decided env.epoch ours.row new
 
@@ -317,7 +336,7 @@ module _ (k : Setting) (x : Conn) (heads : List Seen) (quiet : IsQuiet x heads) 
   pub again-owe : offer_answer env.epoch ours.row ≡ Again → Owed (Says (taken_sent env))
   again-owe again =
       let row = decided-again env.epoch ours.row again in
-      let le : IsOnceOver row.0.epoch.0 = row-small x held n row.0 row.1 x.part.front.row held.sits held.early in
+      let le : IsEarlyEpoch row.0.epoch.0 = row-small x held n row.0 row.1 x.part.front.row held.sits held.early in
       node-says x heads quiet held n (taken_sent env) (tt, tt) (
         subst (λ h. MaySay x.part (Node n) Front h) (sym (spelled-head _ (omega (arith, row.2, le))))
             (subst (IsDecided env.epoch) (sym row.1) (omega (arith, row.2))),

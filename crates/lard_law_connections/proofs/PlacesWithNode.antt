@@ -1,10 +1,11 @@
 -- With whom the front end has a connection that is at a node.
 use Rattle.std.proofs.Common.{◌≡◌, ◌⊎◌, ◌==◌, ℕ, Bool, true, false, Option, Some, None, refl, sym, ◌∙◌, subst, arith, eqb-true, eq-eqb, inl, inr, ⊎_elim}
-use Rattle.lard_law_connections.specs.Places.{IsComing, IsDecided, IsEven, IsOffered, IsPast, IsThere, Offers, Owning, Sits, StageSits, owning}
+use Rattle.lard_law_connections.specs.Places.{IsComing, IsDecided, IsEarlyEpoch, IsEven, IsOffered, IsPast, IsThere, Offers, Owning, Sits, StageSits, owning}
 use Rattle.lard_law_connections.proofs.PlacesTurns.{IsPlaced, early-at}
-use Rattle.lard_law_view.specs.Prelude.{BackRow, Conn, ControlBlock, FrontConn, FrontRow, IsOnceAway, tale_at}
+use Rattle.lard_law_view.specs.Prelude.{BackRow, Conn, ControlBlock, FrontConn, FrontRow, tale_at}
 use Rattle.lard_handoff_back.specs.declared.row.BackConn.TheVariants as back
 use Rattle.lard_handoff_front.specs.declared.row.FrontConn.TheVariants as stage
+use Rattle.lard_law_connections.specs.Past.{GoesToNew, IsNewTo, NewAt, stage_whereabouts, whereabouts}
 
 -- the front end has it with this node, in this epoch
 pub record IsWithNode (x : Conn) (n e : ℕ) : Type 0 where
@@ -75,16 +76,27 @@ offered-coming x placed n e offered other = go x.part.front.row refl offered whe
   go (Some row) found offers = at-stage row found row.stage refl offers
 
 -- what is offered is so in an epoch of nodes, and early
-pub offered-away : (x : Conn) → IsPlaced x → (n e : ℕ) → IsOffered n e x.part.front.row → IsEven e × IsOnceAway e
+pub offered-away : (x : Conn) → IsPlaced x → (n e : ℕ) → IsOffered n e x.part.front.row → IsEven e × IsEarlyEpoch e
 offered-away x placed n e offered = go x.part.front.row refl offered where
-  at-stage : (row : FrontRow) → x.part.front.row ≡ Some row → (st : FrontConn) → row.stage ≡ st → Offers n e st → IsEven e × IsOnceAway e
+  at-stage : (row : FrontRow) → x.part.front.row ≡ Some row → (st : FrontConn) → row.stage ≡ st → Offers n e st → IsEven e × IsEarlyEpoch e
   at-stage row found (stage.Offering m d) at offers =
       let w : Owning = owning (tale_at x) in
       let sits : StageSits row.epoch.0 w x.part.nodes (stage.Offering m d) = subst (StageSits row.epoch.0 w x.part.nodes) at (subst (Sits w x.part.nodes) found placed.sits).0 in
       let same : row.epoch.0 ≡ e = sym sits.1 ∙ offers.1 in
-      (subst IsEven same sits.0, subst IsOnceAway same (early-at x placed row found (stage.Offering m d) at))
+      (subst IsEven same sits.0, subst IsEarlyEpoch same (early-at x placed row found))
   at-stage row found _ at offers = absurd offers
 
-  go : (o : Option FrontRow) → x.part.front.row ≡ o → IsOffered n e o → IsEven e × IsOnceAway e
+  go : (o : Option FrontRow) → x.part.front.row ≡ o → IsOffered n e o → IsEven e × IsEarlyEpoch e
   go None found offers = absurd offers
   go (Some row) found offers = at-stage row found row.stage refl offers
+
+-- a node to which it is offered is new to it
+pub offered-new : (x : Conn) → GoesToNew x → (n e : ℕ) → IsOffered n e x.part.front.row → IsNewTo e (x.part.nodes n).row
+offered-new x new n e offered = go x.part.front.row new offered where
+  at-stage : (row : FrontRow) (st : FrontConn) → NewAt x.part.nodes (stage_whereabouts row.ended_by st) → Offers n e st → IsNewTo e (x.part.nodes n).row
+  at-stage row (stage.Offering m d) at offers = subst (λ (i : ℕ). IsNewTo e (x.part.nodes i).row) offers.0 (subst (λ (i : ℕ). IsNewTo i (x.part.nodes m).row) offers.1 at)
+  at-stage row _ at offers = absurd offers
+
+  go : (o : Option FrontRow) → NewAt x.part.nodes (whereabouts o) → IsOffered n e o → IsNewTo e (x.part.nodes n).row
+  go None at h = absurd h
+  go (Some row) at h = at-stage row row.stage at h

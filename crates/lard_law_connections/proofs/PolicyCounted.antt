@@ -11,7 +11,7 @@ use Rattle.lard_base.specs.declared.event.Event.TheVariants as event
 use Rattle.lard_law_connections.proofs.PolicyAsides.{EachAfter, EachFrom, IsAside, May, MayFollow, after-may, allows-aside, from-may, may-from, note-aside, paired-append}
 use Rattle.lard_law_connections.proofs.Calm.{IsCalm, first-calm, first_rows, last-calm, last_rows, told-journal}
 use Rattle.lard_law_connections.proofs.Forms.{Clocks, ComesToFront, FrontStays, FrontStep, front-calm, front-form}
-use Rattle.lard_law_connections.proofs.PlacesRuns.{may-come}
+use Rattle.lard_law_connections.proofs.LeaversRuns.{may-come}
 use Rattle.lard_law_connections.proofs.PolicyHomes.{stands-so}
 use Rattle.lard_law_connections.proofs.PolicyIns.{AreIn, length-others}
 use Rattle.lard_law_connections.proofs.PolicyLeading.{Leads, aside-leads, at, behind-asides, both-lead}

@@ -1,6 +1,6 @@
 -- What a node does keeps the law of RST.
 use Rattle.std.proofs.Common.{◌≡◌, ℕ, Bool, true, List, [], ◌∷◌, ◌++◌, Option, Some, None, refl, sym, subst}
-use Rattle.lard_law_view.specs.Prelude.{AreSent, Asked, Conn, ControlBlock, Ending, IsConnSound, IsNodeEnv, Kept, Node, NodeDeed, NodeEnv, NodeGets, NodePart, Place, Progress, Seen, Service, Setting, Stay, Turn, Want, Work, after_timer, again_sent, all_sent, asked_sent, came_for, come_progress, ended_sent, goes_on, kept_after, named_records, node_begins, node_does, node_rule, on_segment, read_progress, reads_batch, serving, serving_ready_of, serving_settled, spoken, state_of, tagged, taken_sent, tale_at, timed, turn_by, wants_sent, with_work, without, work_of}
+use Rattle.lard_law_view.specs.Prelude.{AreSent, Asked, Conn, ControlBlock, Ending, IsConnSound, IsNodeEnv, Kept, Node, NodeDeed, NodeEnv, NodeGets, NodePart, Place, Progress, Seen, Service, Setting, Stay, Turn, Want, Work, after_timer, again_sent, all_sent, asked_sent, came_for, come_progress, ended_sent, give_kept, gives_back, goes_on, kept_after, named_records, node_begins, node_does, node_rule, on_segment, read_progress, reads_batch, sent_of, serving, serving_ready_of, serving_settled, spoken, state_of, tagged, taken_sent, tale_at, timed, turn_by, wants_sent, with_work, without, work_of}
 use Rattle.lard_base.specs.declared.place.TimerKind.TheVariants as timer
 use Rattle.lard_history.proofs.Each.{Each, Each-append}
 use Rattle.lard_law_connections.proofs.LimitsWorking.{batch-state, came-so, goes-so, tagged-so}
@@ -8,7 +8,7 @@ use Rattle.lard_law_connections.proofs.ResetsMoves.{IsBehindResets, MoveResets, 
 use Rattle.lard_law_connections.proofs.ResetsRows.{AllKeepRst, KeepsRst, IsUnsentSeen, fair-more, named-resets, resets-stay, resets_on, row-more}
 use Rattle.lard_law_connections.proofs.ResetsTurns.{EndingAfter, IsBehind, TurnResets, are-fair, serving-behind, settled-resets, spoken-resets, timed-plain}
 use Rattle.lard_message.specs.declared.message.Body.TheVariants as body
-use Rattle.lard_rules.proofs.NodeCases.{IsInItsEpoch, KeptByNode, node-keeps}
+use Rattle.lard_rules.proofs.NodeCases.{IsOfItsEpoch, KeptByNode, Turned, node-keeps}
 use Rattle.lard_rules.specs.declared.places.Ending.TheVariants as ending
 use Rattle.lard_rules.specs.Node.{Drops, Says, Does}
 
@@ -76,6 +76,22 @@ module _ (k : Setting) (x : Conn) (sound_x : IsConnSound x) (h : IsBehindResets 
         front = row-more was then x.part.front.row (resets-stay x.c (named_records given.1.notes) was) h.ends.front;
       }
 
+  -- one that goes back says nothing to the client
+  backs-behind : (part : NodePart) (before : List (Place × List ℕ)) (work : Work) → AllKeepRst was (Node n) before → Stays (gives_back env part before work)
+  backs-behind part before work fair =
+      let then : Bool = resets_on x.c was (named_records work.service.notes) in
+      let later = resets-stay x.c (named_records work.service.notes) was in
+      let give : List (Place × List ℕ) = sent_of (give_kept env work) ∷ [] in
+      record {
+        heads = seen;
+        segments = tt;
+        messages = Each-append (KeepsRst then (Node n)) (all_sent env before work) give
+            (Each-append (KeepsRst then (Node n)) (before ++ asked_sent env work.asked) (wants_sent env work.wants)
+            (Each-append (KeepsRst then (Node n)) before (asked_sent env work.asked) (fair-more was then (Node n) before later fair) (asked-fair then work.asked)) (wants-fair then work.wants))
+            ((tt, other-ends then n env.serve.c env.epoch (body.Give _) (λ i. absurd cc)), tt);
+        front = row-more was then x.part.front.row later h.ends.front;
+      }
+
   abbrev Works : Work → Type 0
   Works w = IsBehind env.serve was w.service
 
@@ -86,6 +102,9 @@ module _ (k : Setting) (x : Conn) (sound_x : IsConnSound x) (h : IsBehindResets 
       turn-behind part before w (serving_settled env.serve w.service) fair
       (settled-resets env.serve was w.service (goes-so env (IsBehind env.serve was) (serving-behind env.serve was) work behind))
 
+  goes-turned : (part : NodePart) (work : Work) → Works work → Turned Stays env part [] (goes_on env work)
+  goes-turned part work behind = (λ rests. goes-behind part [] work tt behind, λ back. backs-behind part [] (goes_on env work) tt)
+
   -- ---- the rules
 
   came-behind : (f : Progress → Progress) (r : ℕ) (b : ControlBlock) (s : Stay) → Works (came_for f r (work_of b s))
@@ -94,23 +113,25 @@ module _ (k : Setting) (x : Conn) (sound_x : IsConnSound x) (h : IsBehindResets 
   rules_behind : KeptByNode env ours (λ g. Unit {0}) Stays
   rules_behind = record {
     drops = dropped;
-    hears = λ said b s m at. goes-behind ours [] (work_of (on_segment b said).1 s) tt tt;
-    tags = λ number nodes b s m at asked same count. goes-behind (record ours { kept = without timer.Ask 0 ours.kept }) [] (tagged env nodes (work_of b s)) tt
+    hears = λ said b s m at. goes-turned ours (work_of (on_segment b said).1 s) tt;
+    tags = λ number nodes b s m at asked same count. goes-turned (record ours { kept = without timer.Ask 0 ours.kept }) (tagged env nodes (work_of b s))
         (tagged-so env (IsBehind env.serve was) (serving-behind env.serve was) nodes (work_of b s) tt);
-    comes = λ from r b s m at wanted. goes-behind (record ours { fetches = without timer.Fetch r ours.fetches }) []
-        (came_for (come_progress from) r (work_of b s)) tt (came-behind (come_progress from) r b s);
-    reads = λ r path b s m at. goes-behind ours [] (came_for read_progress r (work_of b s)) tt (came-behind read_progress r b s);
-    begins = λ parts m new. goes-behind ours (taken_sent env) (state_of (reads_batch env true (node_begins env parts))) (taken-fair was)
+    comes = λ from r b s m at wanted. goes-turned (record ours { fetches = without timer.Fetch r ours.fetches })
+        (came_for (come_progress from) r (work_of b s)) (came-behind (come_progress from) r b s);
+    reads = λ r path b s m at. goes-turned ours (came_for read_progress r (work_of b s)) (came-behind read_progress r b s);
+    begins = λ parts m new may. goes-behind ours (taken_sent env) (state_of (reads_batch env true (node_begins env parts))) (taken-fair was)
         (batch-state env (IsBehind env.serve was) (serving-behind env.serve was) true (node_begins env parts) refl tt);
     takes_again = λ parts m again. says (taken_sent env) (taken-fair was);
+    refuses = λ parts m is. record { heads = seen; segments = tt; messages = ((tt, other-ends was n env.serve.c env.epoch body.Refused (λ i. absurd cc)), tt); front = h.ends.front };
     fires = λ b s m at.
         let before : List (Place × List ℕ) = serving_ready_of env.serve (after_timer b) (timed b) in
         let start : Service = serving (after_timer b) s.served [] in
         turn-behind ours (again_sent ours) (work_of (after_timer b) s) (spoken env.serve start before) again-fair
         (spoken-resets env.serve was start before (timed-plain env.serve b));
     resends = λ m none. says (again_sent ours) again-fair;
-    ends = λ m told. record { heads = seen; segments = tt; messages = tt; front = h.ends.front };
+    ends = λ back m told was. record { heads = seen; segments = tt; messages = tt; front = h.ends.front };
+    leaves = λ b s m at back. backs-behind ours [] (work_of b s) tt;
   }
 
-  pub rule-behind : (g : NodeGets) → IsInItsEpoch env ours g → Stays (node_rule env ours g)
+  pub rule-behind : (g : NodeGets) → IsOfItsEpoch env ours g → Stays (node_rule env ours g)
   rule-behind g at = node-keeps env ours (λ g. Unit {0}) Stays rules_behind g at tt

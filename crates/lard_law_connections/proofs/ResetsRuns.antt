@@ -50,7 +50,7 @@ module _ (k : Setting) where
   nodes : NodeRules k Owing
   nodes = each-node k Owing (record {
     does = λ x n epoch env heads g is at comes m h. read-first x n g _
-        (rule-behind k x m.sound h n epoch env is heads (heads-of IsUnsentSeen (λ l. tt) (λ i c. tt) x n epoch heads g comes) g at);
+        (rule-behind k x m.sound h n epoch env is heads (heads-of IsUnsentSeen (λ l. tt) (λ i c. tt) x n epoch heads g comes) g at.0);
     aside = λ x n a may m h. by-aside x n a h;
   })
 

@@ -87,14 +87,14 @@ module _ (k : Setting) (small : k.stream ≤ 2 ^ 30) where
   node-given : (x : Conn) (n epoch : ℕ) (env : NodeEnv) (is : IsNodeEnv k x.c n epoch env) (heads : List Seen) → AllHaveSpoken x → (g : NodeGets)
       → NodeComes x n epoch heads g
       → nodes.Given env IsTurning HasSpoken HasSpoken Anything AnyReply (node-kept x n epoch env is) (x.part.nodes n) g
-  node-given x n epoch env is heads h (Offered parts) c = λ new. adopted-turns parts (offer-valid x.c epoch parts c.bytes c.spells)
+  node-given x n epoch env is heads h (Offered parts) c = (h.nodes n, λ new. adopted-turns parts (offer-valid x.c epoch parts c.bytes c.spells))
   node-given x n epoch env is heads h (Forwarded given) c = (h.nodes n, λ s e. tt)
   node-given x n epoch env is heads h _ c = h.nodes n
 
   node-rules : NodeRules k Speaks
   node-rules = each-node k Speaks (record {
     does = λ x n epoch env heads g is at comes may h. node-move x n heads env.serve.c (node_rule env (x.part.nodes n) g)
-        (nodes.rule-has env IsTurning HasSpoken HasSpoken Anything AnyReply (node-kept x n epoch env is) (x.part.nodes n) g at
+        (nodes.rule-has env IsTurning HasSpoken HasSpoken Anything AnyReply (node-kept x n epoch env is) (x.part.nodes n) g at.0
         (node-given x n epoch env is heads h g comes)) h;
     aside = λ x n a may rest h. h;
   })

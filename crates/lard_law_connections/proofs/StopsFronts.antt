@@ -4,7 +4,7 @@ use Rattle.std.proofs.lemmas.Bool.{both_ways, cond_both}
 use Rattle.lard_law_view.specs.Prelude.{Conn, ControlBlock, Done, Ending, EndpointParts, FilesAt, Found, FrontConn, FrontDeed, FrontEnv, FrontGets, FrontPart, FrontRow, HasStopped, More, Place, Reading, Said, Seen, ServeEnv, Service, Step, Verdict, after_timer, answered, block_at, cut_of, front_does, front_fired, front_reads, front_rest, front_rule, given_sent, good_path, grown, may_freeze, may_read, on_segment, reading_left, reading_turn, reads_block, reads_found, runs_on, serving_consumed, serving_settled, speaks, spoken, stage_after, targeted}
 use Rattle.lard_base.specs.declared.place.Via.TheVariants.{Own}
 use Rattle.lard_block.specs.declared.block.Found.TheVariants as found
-use Rattle.lard_law_connections.specs.Stops.{FrontStageStops, FrontStops, HeldStops, IsHeldBack, ReadingStops}
+use Rattle.lard_law_connections.specs.Stops.{FrontStageStops, FrontStops, HeldStops, IsHeldBack, ReadingStopsBy}
 use Rattle.lard_law_connections.proofs.StopsSame.{Same, Stays, answered-closes, closed-there, ended-stopped, none-behind, spoken-calm, same-held, same-stopped, segment-closes, speaks-same, timer-same}
 use Rattle.lard_rules.specs.Front.{Drops, Says, Does}
 use Rattle.lard_rules.proofs.FrontTurns.{falls}
@@ -176,7 +176,8 @@ module _ (env : FrontEnv) (p : FrontPart) (h : FrontStops env.serve.files p.row)
 
 -- ---- its move
 
-pub front-move : (files : FilesAt) (x : Conn) (heads : List Seen) (d : FrontDeed) → DeedStops files d → ReadingStops files x → ReadingStops files (grown x (front_does x heads d))
-front-move files x heads Drops k h = h
-front-move files x heads (Says turn) k h = h
-front-move files x heads (Does did) k h = (k, h.1)
+pub front-move : (leaving : ℕ → Bool) (files : FilesAt) (x : Conn) (heads : List Seen) (d : FrontDeed) → DeedStops files d → ReadingStopsBy leaving files x
+    → ReadingStopsBy leaving files (grown x (front_does x heads d))
+front-move leaving files x heads Drops k h = h
+front-move leaving files x heads (Says turn) k h = h
+front-move leaving files x heads (Does did) k h = (k, h.1)

@@ -42,7 +42,7 @@ speaks-same c b = speaks_keep c (λ b ss d. Same b d) (record { rests = λ b. (r
 pub same-stopped : (b d : ControlBlock) → Same b d → HasStopped b → HasStopped d
 same-stopped b d s h = stopped-alike b d s.0 s.3 h
 
-same-freeze : (b d : ControlBlock) → Same b d → may_freeze d ≡ may_freeze b
+pub same-freeze : (b d : ControlBlock) → Same b d → may_freeze d ≡ may_freeze b
 same-freeze b d s = λ i. (((s.1 i) == (1 + s.2 i + one_if (s.3 i))) && not (s.3 i)) && (not (s.0 i).discarding && not (s.4 i))
 
 pub same-held : (files : FilesAt) (b d : ControlBlock) → Same b d → IsHeldBack files b → IsHeldBack files d

@@ -10,7 +10,7 @@ use Rattle.lard_history.proofs.Each.{Each, Each-append}
 use Rattle.lard_journal.specs.declared.rec.Rec.TheVariants as rec
 use Rattle.lard_message.specs.declared.message.Body.TheVariants as body
 use Rattle.lard_rules.specs.declared.node.BackIn.TheVariants as back
-use Rattle.lard_rules.proofs.NodeCases.{IsInItsEpoch}
+use Rattle.lard_rules.proofs.NodeCases.{IsOfItsEpoch}
 use Rattle.lard_rules.specs.Node.{Drops, Says, Does}
 
 -- Node n, which had this cache and these jobs, is so now and did this: it was given the jobs that it notes, and its cache has the
@@ -61,7 +61,7 @@ module _ (k : NodeSetting) where
     timers = timers-aside (Node k.n) c (node_armed (node_part s c)) (node_armed x.0) timer_kinds;
   }
 
-  rule-moves : (s : NodeState) (c epoch : ℕ) (g : NodeGets) → IsInItsEpoch (node_env k s c epoch) (node_part s c) g
+  rule-moves : (s : NodeState) (c epoch : ℕ) (g : NodeGets) → IsOfItsEpoch (node_env k s c epoch) (node_part s c) g
       → MovesFrom s (node_deed k s c (node_rule (node_env k s c epoch) (node_part s c) g))
   rule-moves s c epoch g at = deed-moves s c (node_rule (node_env k s c epoch) (node_part s c) g) (rule-deed (node_env k s c epoch) (node_part s c) g at)
 
@@ -80,7 +80,8 @@ module _ (k : NodeSetting) where
   hears-moves s Front c epoch (body.Offer parts) = rule-moves s c epoch (Offered parts) tt
   hears-moves s Front c epoch (body.Forward bytes) = rule-moves s c epoch (Forwarded (decoded bytes c ToCluster)) tt
   hears-moves s Front c epoch (body.Tag number nodes) = rule-moves s c epoch (Tagged number nodes) tt
-  hears-moves s Front c epoch body.EndedAck = rule-moves s c epoch Acknowledged tt
+  hears-moves s Front c epoch body.EndedAck = rule-moves s c epoch (Acknowledged false) tt
+  hears-moves s Front c epoch body.Given = rule-moves s c epoch (Acknowledged true) tt
   hears-moves s (Node from) c epoch (body.Fetch r path) = fetched-moves s from c epoch r path (k.files path) refl
   hears-moves s (Node from) c epoch (body.Content r bytes) = rule-moves s c epoch (Content from r) tt
   hears-moves s _ c epoch _ = stays s

@@ -101,10 +101,19 @@ pub record IsEnding (w : Stream) (was_reset : Bool) (c e : ℕ) (kept : List Kep
   pub ended : EndedWithNumbers w was_reset last
   pub kept_is : kept ≡ ended_kept c e last count ∷ []
 
+-- it went back, and the node tells the endpoint that was frozen until that is answered; nothing more was read
+pub record IsReturning (w out : Stream) (vs pend : List Verdict) (c e : ℕ) (p : NodePart) : Type 0 where
+  pub block : ControlBlock
+  pub count : ℕ
+  pub frozen : may_freeze block ≡ true
+  pub holds : FrontHolds w out vs pend block count
+  pub returned : p.beside.returned ≡ Some count
+  pub kept_is : p.kept ≡ record { kind = kind.Give; r = 0; to = Front; bytes = message c e (body.Give (parts_of block count)) } ∷ []
+
 abbrev pub BackAgrees : Stream → Stream → List Verdict → List Verdict → Bool → ℕ → ℕ → NodePart → BackConn → Type 0
 BackAgrees w out vs pend was_reset c e p (back.Here b) = StayAgrees w out vs pend b p.stay
 BackAgrees w out vs pend was_reset c e p back.Out = ⊥
-BackAgrees w out vs pend was_reset c e p back.Ended = IsEnding w was_reset c e p.kept
+BackAgrees w out vs pend was_reset c e p back.Ended = IsEnding w was_reset c e p.kept ⊎ IsReturning w out vs pend c e p
 BackAgrees w out vs pend was_reset c e p back.Gone = ⊥
 
 abbrev pub RowAgrees : Stream → Stream → List Verdict → List Verdict → Bool → ℕ → NodePart → Option BackRow → Type 0
@@ -143,9 +152,10 @@ FrontTells k c p n e bytes (body.Offer parts) = IsDecided e (p.nodes n).row ⊎ 
 FrontTells k c p n e bytes (body.Forward segment) = (s : Said) × (segment ≡ spelled c ToCluster s) × IsWord k.w s
 FrontTells k c p n e bytes _ = Unit {0}
 
--- A message of a node: the end of a stay that the front end does not know is the one that is kept.
+-- A message of a node: the end of a stay, or the Give, that the front end does not know is the one that is kept.
 abbrev pub NodeTells : Part → ℕ → ℕ → List ℕ → Body → Type 0
 NodeTells p n e bytes (body.Ended reason snd rcv count) = HasEnded e p.front.row ⊎ IsKept (p.nodes n).kept bytes
+NodeTells p n e bytes (body.Give parts) = HasEnded e p.front.row ⊎ IsKept (p.nodes n).kept bytes
 NodeTells p n e bytes _ = Unit {0}
 
 abbrev pub IsNodePlace : Place → Type 0

@@ -1,10 +1,10 @@
 -- What the rules of a place keep of the agreement of its connection: those of a node, those of the front end, and what a client does.
-use Rattle.std.specs.Prelude.{◌≡◌, ◌⊎◌, ℕ, ◌^◌, ◌<◌, ◌||◌, ◌≤◌, Bool, false, true, List, [], ◌++◌, Option, Some, None, Ok}
+use Rattle.std.specs.Prelude.{Bool, List, None, Ok, Option, Some, [], false, true, ℕ, ◌∷◌, ◌++◌, ◌<◌, ◌^◌, ◌||◌, ◌≡◌, ◌≢◌, ◌≤◌, ◌⊎◌}
 use Rattle.std.specs.List.{list_any}
-use Rattle.lard_law_view.specs.Prelude.{AreReplies, Body, ControlBlock, EndpointParts, FilesAt, Final, FirstChoice, Front, FrontConn, FrontEnv, FrontPart, FrontRow, FrontTurn, GoesOn, IsConnNumber, IsStream, IsWord, Kind, MAX_STREAM_BYTES, Message, Node, NodeDeed, NodeEnv, NodePart, NodeTurn, Part, Place, Reason, Said, SaysAnswers, Stream, Verdict, again_sent, decoded_message, front_admitted, front_ended, front_gets, front_rest, front_timer, is_reset_record, kind_of, may_freeze, node_content, node_forwarded, node_offered, node_read, node_tagged, node_timer, parts_of}
+use Rattle.lard_law_view.specs.Prelude.{AreReplies, BackRow, Body, ControlBlock, EndpointParts, FilesAt, Final, FirstChoice, Front, FrontConn, FrontEnv, FrontPart, FrontRow, FrontTurn, GoesOn, IsConnNumber, IsStream, IsWord, Kind, MAX_STREAM_BYTES, Message, Node, NodeDeed, NodeEnv, NodePart, NodeTurn, Part, Place, Reason, Said, SaysAnswers, Stream, Verdict, again_sent, decoded_message, front_admitted, front_ended, front_gets, front_rest, front_timer, is_reset_record, kind_of, may_freeze, node_content, node_forwarded, node_goes_back, node_offered, node_read, node_tagged, node_timer, offer_decision, parts_of}
 use Rattle.lard_law_connections.specs.BytesAgreement.{EndedWithNumbers, FrontHolds, FrontWaits, IsKept, IsOffering, NodeAgrees, SeatAgrees, StayComesOn}
 use Rattle.lard_law_connections.specs.BytesTurning.{CountsResponses}
-use Rattle.lard_law_connections.specs.Places.{IsDecided}
+use Rattle.lard_law_connections.specs.Places.{IsDecided, IsLeft}
 use Rattle.lard_rules.specs.Front.{message}
 use Rattle.lard_rules.specs.Front as front
 use Rattle.lard_handoff_front.specs.declared.row.FrontConn.TheVariants as stage
@@ -12,10 +12,18 @@ use Rattle.lard_history.proofs.Each.{Each}
 use Rattle.lard_message.specs.declared.kind.Kind.TheVariants as kind
 use Rattle.lard_message.specs.declared.message.Body.TheVariants as body
 use Rattle.lard_rules.specs.Node.{Does, Drops, Says}
+use Rattle.lard_handoff_back.specs.declared.table.Adopt.TheVariants.{Refuse}
 
--- What a node says: an Ended is the one that it keeps.
+-- the last stay is over
+abbrev pub HasLeft : Option BackRow → Type 0
+HasLeft None = ⊥
+HasLeft (Some row) = IsLeft row.stage
+
+-- What a node says: an Ended or a Give is the one that it keeps, once its stay is over, and it offers nothing.
 abbrev pub EndsOfKind : NodePart → List ℕ → Kind → Type 0
 EndsOfKind p bytes kind.Ended = IsKept p.kept bytes
+EndsOfKind p bytes kind.Give = IsKept p.kept bytes × HasLeft p.row
+EndsOfKind p bytes kind.Offer = ⊥
 EndsOfKind p bytes _ = Unit {0}
 
 abbrev pub NodeSays : ℕ → NodePart → Place × List ℕ → Type 0
@@ -23,7 +31,8 @@ NodeSays c p s = ((m : ℕ) × (s.0 ≡ Node m)) ⊎ ((e : ℕ) × (b : Body) ×
 
 -- A turn of a node that has a connection: the cluster's stream goes on by the answers to more verdicts, as its notes count, all that
 -- was sent to the client is true of it, and what the node keeps of the connection agrees with it again: it holds the endpoint, and
--- its batch is what was read and is not answered, each request to be answered as it may be, or it tells the front end how it ended.
+-- its batch is what was read and is not answered, each request to be answered as it may be, or it tells the front end how it ended, or
+-- the endpoint that goes back.
 pub record NodeTurned (files : FilesAt) (c e : ℕ) (before : NodePart) (w out : Stream) (vs : List Verdict) (was_reset : Bool) (given : NodePart × NodeTurn) : Type 0 where
   pub out_after : Stream
   pub vs_after : List Verdict
@@ -41,10 +50,10 @@ pub record NodeTurned (files : FilesAt) (c e : ℕ) (before : NodePart) (w out :
   pub told : (again ≡ []) ⊎ (again ≡ again_sent before)
   pub said : Each (NodeSays c given.0) more
 
--- what a rule of a node comes to: what it drops or answers alone changes nothing, and it says what it said before, or an answer
+-- what a rule of a node comes to: what it drops or answers alone changes nothing, and it says what it said before, or that it took it
 abbrev pub DeedKeeps : FilesAt → ℕ → ℕ → NodePart → Stream → Stream → List Verdict → Bool → NodeDeed → Type 0
 DeedKeeps files c e before w out vs was_reset Drops = Unit {0}
-DeedKeeps files c e before w out vs was_reset (Says messages) = (messages ≡ again_sent before) ⊎ Each (NodeSays c before) messages
+DeedKeeps files c e before w out vs was_reset (Says messages) = (messages ≡ again_sent before) ⊎ (messages ≡ (Front, message c e body.Taken) ∷ [])
 DeedKeeps files c e before w out vs was_reset (Does given) = NodeTurned files c e before w out vs was_reset given
 
 -- the streams are those of a connection, and what was said so far answers what was read
@@ -76,10 +85,15 @@ ReadsKeep = (r : ℕ) → NodeKeeps (λ env p. node_read env p r)
 abbrev pub NodeTimerKeeps : Type 0
 NodeTimerKeeps = NodeKeeps node_timer
 
--- The parts of an endpoint that the front end froze: the node goes on where the front end stopped, whatever it kept before.
+-- the node leaves, and the connection goes back where it is ready
+abbrev pub LeavesKeep : Type 0
+LeavesKeep = NodeKeeps node_goes_back
+
+-- The parts of an endpoint that the front end froze: a node that does not refuse them goes on where the front end stopped, whatever it kept before.
 abbrev pub OffersKeep : Type 0
 OffersKeep = (env : NodeEnv) (w out : Stream) (vs pend : List Verdict) (was_reset : Bool) (p : NodePart) (b : ControlBlock) (count : ℕ) → IsTalk env w out vs
-    → FrontHolds w out vs pend b count → may_freeze b ≡ true → DeedKeeps env.serve.files env.serve.c env.epoch p w out vs was_reset (node_offered env p (parts_of b count))
+    → FrontHolds w out vs pend b count → may_freeze b ≡ true → offer_decision env.leaving env.epoch p.row p.beside ≢ Refuse
+    → DeedKeeps env.serve.files env.serve.c env.epoch p w out vs was_reset (node_offered env p (parts_of b count))
 
 -- ---- the front end
 
@@ -172,6 +186,11 @@ SaidStays = (files : FilesAt) (w w_after out : Stream) (vs : List Verdict) → G
 abbrev pub OffersAreRead : Type 0
 OffersAreRead = (c e : ℕ) (w out : Stream) (vs pend : List Verdict) (b : ControlBlock) (count : ℕ) → IsConnNumber c → e < 2 ^ 16 → IsStream w → FrontHolds w out vs pend b count → may_freeze b ≡ true
     → (m : Message) (parts : EndpointParts) → decoded_message (message c e (body.Offer (parts_of b count))) ≡ Ok m → m.body ≡ body.Offer parts → parts ≡ parts_of b count
+
+-- So it is of a Give.
+abbrev pub GivesAreRead : Type 0
+GivesAreRead = (c e : ℕ) (w out : Stream) (vs pend : List Verdict) (b : ControlBlock) (count : ℕ) → IsConnNumber c → e < 2 ^ 16 → IsStream w → FrontHolds w out vs pend b count → may_freeze b ≡ true
+    → (m : Message) (parts : EndpointParts) → decoded_message (message c e (body.Give (parts_of b count))) ≡ Ok m → m.body ≡ body.Give parts → parts ≡ parts_of b count
 
 -- What it reads of a Forward is the segment as it came.
 abbrev pub ForwardsAreRead : Type 0

@@ -1,7 +1,7 @@
 -- What the front end and the nodes keep of a connection until it is answered, by the stage in which it is.
 use Rattle.std.specs.Prelude.{◌≡◌, ◌≢◌, ◌<◌, ◌≤◌, ℕ, ◌+◌, true, is_some, List, [], ◌∷◌, length, Option, Some, None}
 use Rattle.std.specs.List.{AllByRecursion}
-use Rattle.lard_law_view.specs.Prelude.{AreInOrder, BackConn, BackRow, Conn, EndpointParts, Entry, FilesAt, Final, FrontConn, FrontPart, FrontRest, FrontRow, HasTarget, Kept, Node, NodePart, Progress, Stay, ask_kept, ended_kept, fetch_kept, front_rest, named_paths}
+use Rattle.lard_law_view.specs.Prelude.{AreInOrder, BackConn, BackRow, Conn, EndpointParts, Entry, FilesAt, Final, Front, FrontConn, FrontPart, FrontRest, FrontRow, HasTarget, Kept, Node, NodePart, Progress, Stay, ask_kept, ended_kept, fetch_kept, front_rest, named_paths}
 use Rattle.lard_base.specs.declared.place.TimerKind.TheVariants as kind
 use Rattle.lard_handoff_back.specs.declared.row.BackConn.TheVariants as back
 use Rattle.lard_handoff_front.specs.declared.row.FrontConn.TheVariants as stage
@@ -63,12 +63,13 @@ contents_awaited [] = 0
 contents_awaited (e ∷ es) = awaits_content e.progress + contents_awaited es
 
 -- The Ask that is kept names the requests that have no node, and its number is that of the last Ask. The Fetches are of files, stand in
--- the order of their requests, and are no more than contents are awaited.
+-- the order of their requests, and are no more than contents are awaited. The node did not give the connection back.
 pub record StayKeeps (N : ℕ → Type 0) (files : FilesAt) (c e n : ℕ) (p : NodePart) (s : Stay) : Type 0 where
   pub asks : AsksFor c e s.asks (named_paths files s.batch) p.kept
   pub fetches : AllByRecursion (IsFetchFromOther N files c e n) p.fetches
   pub order : AreInOrder p.fetches
   pub few : length p.fetches ≤ contents_awaited s.batch
+  pub not_back : p.beside.returned ≡ None
 
 abbrev pub HereKeeps : (ℕ → Type 0) → FilesAt → ℕ → ℕ → ℕ → NodePart → Option Stay → Type 0
 HereKeeps N files c e n p None = ⊥
@@ -78,10 +79,19 @@ HereKeeps N files c e n p (Some s) = StayKeeps N files c e n p s
 abbrev pub IsEnded : ℕ → ℕ → List Kept → Type 0
 IsEnded c e ks = (last : Final) × (count : ℕ) × (ks ≡ ended_kept c e last count ∷ [])
 
+-- its Give, with so many responses, and nothing else
+abbrev pub IsGive : ℕ → ℕ → ℕ → List Kept → Type 0
+IsGive c e served ks = (parts : EndpointParts) × (ks ≡ record { kind = kind.Give; r = 0; to = Front; bytes = message c e (body.Give parts) } ∷ []) × (parts.served ≡ served)
+
+-- what tells that the stay is over: its Give where the node gave it back, else its Ended
+abbrev pub TellsOver : ℕ → ℕ → Option ℕ → List Kept → Type 0
+TellsOver c e None ks = IsEnded c e ks
+TellsOver c e (Some served) ks = IsGive c e served ks
+
 abbrev pub NodeStageKeeps : (ℕ → Type 0) → FilesAt → ℕ → ℕ → ℕ → NodePart → BackConn → Type 0
 NodeStageKeeps N files c e n p (back.Here b) = HereKeeps N files c e n p p.stay
 NodeStageKeeps N files c e n p back.Out = ⊥
-NodeStageKeeps N files c e n p back.Ended = IsEnded c e p.kept × (p.fetches ≡ [])
+NodeStageKeeps N files c e n p back.Ended = TellsOver c e p.beside.returned p.kept × (p.fetches ≡ [])
 NodeStageKeeps N files c e n p back.Gone = (p.kept ≡ []) × (p.fetches ≡ [])
 
 abbrev pub NodeRowKeeps : (ℕ → Type 0) → FilesAt → ℕ → ℕ → NodePart → Option BackRow → Type 0

@@ -31,3 +31,5 @@ pub mod BytesKeeping
 pub mod BytesRuns
 pub mod Offers
 pub mod Closings
+pub mod Past
+pub mod PastLaws

@@ -2,7 +2,7 @@
 use Rattle.std.specs.Prelude.{◌≡◌, ◌⊎◌, ℕ, ◌+◌, ◌-◌, ◌≤◌, false, List, [], ◌∷◌, length, take, drop, Some, Ok}
 use Rattle.lard_law_view.specs.Prelude.{Body, Cuts, EachMay, EndpointParts, FilesAt, Front, Head, Long, Message, Node, Place, Rec, blocks, decoded_message, file_at, is_touched, numbers_of, said_to, served, wrote}
 use Rattle.lard_block.specs.Blocks.{Piece}
-use Rattle.lard_law_connections.specs.BytesRuns.{AlwaysWithinStreams}
+use Rattle.lard_law_connections.specs.PlacesLaws.{AlwaysUsable}
 use Rattle.lard_history.proofs.Each.{Each}
 use Rattle.lard_journal.specs.declared.rec.Rec.TheVariants as rec
 use Rattle.lard_message.specs.declared.message.Body.TheVariants as body
@@ -79,4 +79,4 @@ CarryTheEndpoint files J = EachMay (MayOffer files) [] J
 
 -- in every run of the cluster
 abbrev pub OffersCarryTheEndpoint : Type 0
-OffersCarryTheEndpoint = AlwaysWithinStreams (λ files m. CarryTheEndpoint (file_at files) m.journal)
+OffersCarryTheEndpoint = AlwaysUsable (λ files m. CarryTheEndpoint (file_at files) m.journal)

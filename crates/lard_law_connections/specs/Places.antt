@@ -1,6 +1,6 @@
 -- Where the sending side of a connection is, by what the front end and the nodes keep of it, and what its messages say of that.
-use Rattle.std.specs.Prelude.{◌≡◌, ◌≢◌, ◌⊎◌, ℕ, ◌+◌, ◌%◌, ◌<◌, ◌≤◌, List, option_map, Option, Some, None}
-use Rattle.lard_law_view.specs.Prelude.{BackConn, BackRow, Conn, Epoch, Front, FrontConn, FrontRow, IsOnceAway, IsOnceHere, IsOnceOver, Kind, Letter, Node, NodePart, Part, Place, Tale, epoch_at, kind_named, number_byte, tale_at, version_at}
+use Rattle.std.specs.Prelude.{◌≡◌, ◌≢◌, ◌⊎◌, ℕ, ◌+◌, ◌%◌, ◌<◌, ◌≤◌, List, true, option_map, Option, Some, None, is_some}
+use Rattle.lard_law_view.specs.Prelude.{BackConn, BackRow, Conn, Epoch, Front, FrontConn, FrontRow, Kind, Letter, Node, NodePart, Part, Place, Tale, epoch_at, kind_named, number_byte, tale_at, version_at}
 use Rattle.lard_handoff_back.specs.declared.row.BackConn.TheVariants.{Here, Out, Ended, Gone}
 use Rattle.lard_handoff_front.specs.declared.row.FrontConn.TheVariants.{Held, Waiting, Lent, Offering, Moved, Closed}
 use Rattle.lard_message.specs.declared.kind.Kind.TheVariants as kind
@@ -74,18 +74,13 @@ StageSits e w nodes (Offering n d) = IsEven e × (d.0 ≡ e) × OthersArePast n 
 StageSits e w nodes (Moved n d) = IsEven e × (d.0 ≡ e) × OthersArePast n e nodes × IsThere n e w (nodes n).row
 StageSits e w nodes (Closed last) = IsOdd e × IsHome e w nodes
 
--- how late an epoch is at most, by the stage, while a connection leaves the front end once
-abbrev pub IsStageEarly : ℕ → FrontConn → Type 0
-IsStageEarly e (Held b) = IsOnceHere e
-IsStageEarly e (Waiting b) = IsOnceHere e
-IsStageEarly e Lent = IsOnceHere e
-IsStageEarly e (Offering n d) = IsOnceAway e
-IsStageEarly e (Moved n d) = IsOnceAway e
-IsStageEarly e (Closed last) = IsOnceOver e
+-- each node gives a connection back once at most, so it comes to no late epoch
+abbrev pub IsEarlyEpoch : ℕ → Type 0
+IsEarlyEpoch e = e < 200
 
 abbrev pub IsRowEarly : Option FrontRow → Type 0
 IsRowEarly None = Unit {0}
-IsRowEarly (Some row) = IsStageEarly row.epoch.0 row.stage
+IsRowEarly (Some row) = IsEarlyEpoch row.epoch.0
 
 -- the stay whose end the front end knows was of an earlier epoch
 abbrev pub EndedBefore : ℕ → Option Epoch → Type 0
@@ -139,6 +134,10 @@ HasStay e (Some row) = row.epoch.0 ≡ e
 abbrev pub IsRefusedBy : ℕ → NodePart → Type 0
 IsRefusedBy e p = IsReachedBy e p.beside.refused × IsOfOther e p.row
 
+-- its stay of this epoch is over, and it gave the connection back
+abbrev pub IsGivenBack : ℕ → NodePart → Type 0
+IsGivenBack e p = IsOver e p.row × (is_some p.beside.returned ≡ true)
+
 -- it is offered to node n in this epoch
 abbrev pub Offers : ℕ → ℕ → FrontConn → Type 0
 Offers n e (Offering m d) = (m ≡ n) × (d.0 ≡ e)
@@ -168,13 +167,13 @@ FrontSaid p n e kind.EndedAck = HasEnded e p.front.row
 FrontSaid p n e kind.Given = HasEnded e p.front.row
 FrontSaid p n e _ = Unit {0}
 
--- and once a node sent such a message to the front end: none offers a connection, or gives one back
+-- and once a node sent such a message to the front end: none offers a connection
 abbrev pub NodeSaid : Part → ℕ → ℕ → Kind → Type 0
 NodeSaid p n e kind.Offer = ⊥
 NodeSaid p n e kind.Taken = IsDecided e (p.nodes n).row
 NodeSaid p n e kind.Ended = IsOver e (p.nodes n).row
 NodeSaid p n e kind.Refused = IsRefusalTold p n e
-NodeSaid p n e kind.Give = ⊥
+NodeSaid p n e kind.Give = IsGivenBack e (p.nodes n)
 NodeSaid p n e _ = Unit {0}
 
 -- and once a node sent it to another one

@@ -4,7 +4,7 @@ use Rattle.lard_law_view.specs.Prelude.{Body, Client, Conn, FilesAt, Front, Lett
 use Rattle.lard_bound.specs.Chains.{chain}
 use Rattle.lard_bound.specs.Nears.{Near}
 use Rattle.lard_bound.specs.Progress.{Answers, Any, Every, IfCame, IsFetch, IsWarm, Lasts, NearOn, came_in, chain_on, spot_at, spot_with}
-use Rattle.lard_bound.specs.Seats.{SeatNow, seat_of, tells_end}
+use Rattle.lard_bound.specs.Seats.{SeatNow, seat_of, tells_over}
 use Rattle.lard_bound.specs.Spots.{Spot, post_of, spot_of}
 use Rattle.lard_bound.specs.Units.{Whole, units}
 use Rattle.lard_message.specs.declared.message.Body.TheVariants as body
@@ -84,7 +84,7 @@ seated files p st z = record {
   una = st.client.send.una;
   last = symbols st.client.send;
   post = post_of files st.client z;
-  telling = λ n. tells_end (p.nodes n).row;
+  telling = λ n. tells_over (p.nodes n);
 }
 
 pub seated-is : (files : FilesAt) (p : Part) (st : Station) → spot_of files p st ≡ seated files p st (seat_of p)

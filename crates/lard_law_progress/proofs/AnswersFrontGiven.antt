@@ -4,7 +4,7 @@ use Rattle.std.specs.List.{AllByRecursion, find}
 use Rattle.lard_law_view.specs.Prelude.{Client, Conn, ControlBlock, EndpointParts, Epoch, FilesAt, Final, Front, FrontConn, FrontRest, FrontRow, IsControlBlock, IsNodeNumber, Letter, MAX_SEGMENT_BYTES, Node, Said, SpellsMessage, Station, ToCluster, Was, back_body, decoded, is_under, may_end, may_freeze, named_paths, parts_kept, receive_room, seg_len, seq_add, seq_offset, symbols}
 use Rattle.lard_base.specs.declared.place.Reason.TheVariants.{Closed}
 use Rattle.lard_base.specs.declared.place.TimerKind.TheVariants as kind
-use Rattle.lard_bound.specs.Seats.{Gone, Held, Here, Offered, Over, Refused, Returned, SeatNow, Staying, Unborn, Waiting, seat_of, tells_end}
+use Rattle.lard_bound.specs.Seats.{Gone, Held, Here, Offered, Over, Refused, Returned, SeatNow, Staying, Unborn, Waiting, seat_of, tells_over}
 use Rattle.lard_bound.specs.Units.{Whole, symbols_taken}
 use Rattle.lard_client.specs.declared.phase.Phase.TheVariants as phase
 use Rattle.lard_handoff_front.specs.declared.row.FrontConn.TheVariants as stage
@@ -105,13 +105,17 @@ pub record ComesBackKnown (x : Conn) : Type 0 where
   pub returns : (n e : ℕ) (given : Option EndpointParts) (bytes : List ℕ) → SpellsMessage x.c e (back_body given) bytes → Was x (Node n) Front bytes
       → (row : FrontRow) (parts : EndpointParts) → IsBack x.part.front n e given row parts → (row.epoch.0 ≡ e) × IsFrom given n e parts.served (seat_of x.part)
   pub given : (told : Bool) (n e served : ℕ) → seat_of x.part ≡ Returned told n e served → (row : FrontRow) → x.part.front.row ≡ Some row → row.epoch.0 ≡ e
+  -- a node that tells a Give has it still, or the front end is past it
+  pub told : (n i : ℕ) → tells_over (x.part.nodes n) ≡ Some (i, true) → (row : FrontRow) × (x.part.front.row ≡ Some row)
+      × ((i < row.epoch.0) ⊎ ((told : Bool) × (served : ℕ) × (seat_of x.part ≡ Returned told n i served)))
   pub gives : (n e : ℕ) (parts : EndpointParts) (bytes : List ℕ) → SpellsMessage x.c e (body.Give parts) bytes → Was x (Node n) Front bytes → e < 2 ^ 16
 
 pub record FrontGiven (files : FilesAt) (w : Whole) (x : Conn) : Type 0 where
   pub unopened : x.part.station ≡ None → x.part.front.row ≡ None
   pub stages : (row : FrontRow) → x.part.front.row ≡ Some row → IsStage row.stage
   pub epochs : (row : FrontRow) (e : Epoch) → x.part.front.row ≡ Some row → row.ended_by ≡ Some e → e.0 < 2 ^ 16
-  pub ended : (row : FrontRow) (last : Final) (n i : ℕ) → x.part.front.row ≡ Some row → seat_of x.part ≡ Over last → tells_end (x.part.nodes n).row ≡ Some i → row.ended_by ≡ Some (record { 0 = i })
+  pub ended : (row : FrontRow) (last : Final) (n i : ℕ) → x.part.front.row ≡ Some row → seat_of x.part ≡ Over last → tells_over (x.part.nodes n) ≡ Some (i, false)
+      → row.ended_by ≡ Some (record { 0 = i })
   pub tags : (rest : FrontRest) → x.part.front.rest ≡ Some rest → 0 < rest.asks → HasTag rest
   pub asks : (told : Bool) (n e : ℕ) (b : ControlBlock) (s : Staying) → seat_of x.part ≡ Here told n e b s → is_some (find (is_under kind.Ask 0) s.kept) ≡ true → IsAsked files s x.part.front.rest
   pub back : ComesBackKnown x

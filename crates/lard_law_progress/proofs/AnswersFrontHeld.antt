@@ -4,7 +4,7 @@ use Rattle.std.proofs.lemmas.Bool.{eq-eqb, eqb-true}
 use Rattle.lard_law_view.specs.Prelude.{ControlBlock, FilesAt, FrontPart, Part, Phase, Said, Sending, Service, Station, may_end, on_segment, serving, with_front}
 use Rattle.lard_bound.specs.Progress.{IsWarmWord}
 use Rattle.lard_bound.specs.Seats.{Held, SeatNow, seat_of}
-use Rattle.lard_bound.specs.Units.{Whole, is_stale, left_with, one_if_not, symbols_taken, tellers}
+use Rattle.lard_bound.specs.Units.{Whole, is_stale, left_with, nodes_left, one_if_not, symbols_taken}
 use Rattle.lard_client.specs.declared.phase.Phase.TheVariants as phase
 use Rattle.lard_law_progress.proofs.AnswersFrontGiven.{IsTalking}
 use Rattle.lard_law_progress.proofs.AnswersFrontSaying.{reset-ends}
@@ -36,8 +36,8 @@ less-count n c m e = omega arith
 pub held-as-left : (k : Whole) (K : ℕ) (files : FilesAt) (p : Part) (st : Station) (b e : ControlBlock) (count more : ℕ) (f : FrontPart) → seat_of p ≡ Held b count → seat_of (with_front p f) ≡ Held e more
     → Carries st.client b e count more → FitsAt k st.client e more → left_with k K p st ≤ left_with k K (with_front p f) st → IsAsLeft st b e count more
 held-as-left k K files p st b e count more f seat now keeps fits up =
-    let w : left_with k K p st ≡ left_by k st (Held b count) (tellers p.nodes K) = ap (λ (z : SeatNow). left_by k st z (tellers p.nodes K)) seat in
-    let n : left_with k K (with_front p f) st ≡ left_by k st (Held e more) (tellers p.nodes K) = ap (λ (z : SeatNow). left_by k st z (tellers p.nodes K)) now in
+    let w : left_with k K p st ≡ left_by k st (Held b count) (nodes_left k p.nodes K) = ap (λ (z : SeatNow). left_by k st z (nodes_left k p.nodes K)) seat in
+    let n : left_with k K (with_front p f) st ≡ left_by k st (Held e more) (nodes_left k p.nodes K) = ap (λ (z : SeatNow). left_by k st z (nodes_left k p.nodes K)) now in
     let u1 : b.send.una ≤ e.send.una = keeps.una in
     let u2 : e.send.una ≤ symbols_taken st.client = fits.acked in
     let u3 : symbols_taken st.client ≤ k.answers + 2 = fits.taken_in in

@@ -1,16 +1,18 @@
 -- What comes of a refusal and of a Give at the front end: where they were awaited the connection is placed anew, which is a unit, and a Give
 -- of an epoch that is past is answered again.
-use Rattle.std.proofs.Common.{◌≡◌, ◌⊎◌, ⊎_elim, inl, inr, ◌<◌, ◌+◌, ◌&&◌, ◌==◌, nat_lt, ℕ, suc, Bool, true, false, cond, List, [], Option, Some, None, is_some, refl, sym, ap, ◌∙◌, subst, arith}
+use Rattle.std.proofs.Common.{◌≡◌, ◌⊎◌, ⊎_elim, inl, inr, ◌<◌, ◌≤◌, ◌+◌, ◌&&◌, ◌==◌, nat_lt, ℕ, suc, Bool, true, false, cond, List, [], Option, Some, None, is_some, refl, sym, ap, ◌∙◌, subst, arith}
+use Rattle.std.proofs.lemmas.Bool.{cond_both}
 use Rattle.std.proofs.lemmas.Bool.Decides.{nat_tests}
-use Rattle.lard_law_view.specs.Prelude.{Conn, Ending, EndpointParts, FrontConn, FrontDeed, FrontEnv, FrontPart, FrontRest, FrontRow, IsConnNumber, IsFrontEnv, Place, Service, Setting, SpellsMessage, Station, Was, back_answer, back_body, back_notes, back_part, back_rest, does_first, front_rests, front_returned, front_saying, given_sent, holds, is_with, next_epoch, offered_to, offering, parts_back, placed, reads_on, returned_by, returned_row, serving_settled, spoken}
+use Rattle.lard_law_view.specs.Prelude.{Conn, Ending, EndpointParts, FrontConn, FrontDeed, FrontEnv, FrontPart, FrontRest, FrontRow, IsConnNumber, IsFrontEnv, Place, Service, Setting, SpellsMessage, Station, Was, back_answer, back_body, back_notes, back_part, back_rest, does_first, front_rests, front_returned, front_saying, given_sent, holds, is_away, is_with, next_epoch, offered_to, offering, parts_back, placed, reads_on, returned_by, returned_row, serving_settled, spoken}
 use Rattle.lard_bound.specs.Chains.{chain, node_chain, of_message}
-use Rattle.lard_bound.specs.Nears.{Near, NearSaid, OfMessage}
-use Rattle.lard_bound.specs.Seats.{Refused, Returned, SeatNow, seat_of}
+use Rattle.lard_bound.specs.Nears.{NearReturn, Near, NearSaid, OfMessage}
+use Rattle.lard_bound.specs.Seats.{Refused, Returned, SeatNow, seat_of, tells_over}
 use Rattle.lard_bound.specs.Spots.{Declined, GaveBack, Post, Spot, post_of}
 use Rattle.lard_bound.specs.Units.{Whole}
 use Rattle.lard_dispatch.specs.declared.dispatch.First.TheVariants as first
 use Rattle.lard_rules.specs.Front.{Does, Drops, Says, message}
 use Rattle.lard_handoff_front.specs.declared.row.FrontConn.TheVariants as stage
+use Rattle.lard_handoff_front.specs.declared.table.returns.Back.{Back}
 use Rattle.lard_handoff_front.specs.declared.table.returns.Back.TheVariants as back
 use Rattle.lard_law_view.specs.Prelude.{Front, Node}
 use Rattle.lard_message.specs.declared.message.Body.TheVariants as body
@@ -27,6 +29,9 @@ never-drops : (env : FrontEnv) (p : FrontPart) (said : List (Place × List ℕ))
     → does_first (back_notes env.serve.c row) said (reads_on env p row parts) ≡ Drops → ⊥
 never-drops env p said row parts = return-keeps env p said row parts (λ w o. Unit {0}) (λ (d : FrontDeed). d ≡ Drops → ⊥)
     (record { reads = tt; holds = λ w r f. cc; hands = λ w path choice r is f. cc; waits = λ w path r is f. cc })
+
+less-so : (a b : ℕ) → a < b → nat_lt a b ≡ true
+less-so a b low = grind (arith, nat_tests, low)
 
 self : (n : ℕ) → (n == n) ≡ true
 self n = grind (arith, nat_tests)
@@ -50,20 +55,24 @@ module _ (k : Setting) (w : Whole) (x : Conn) (env : FrontEnv) (is_env : IsFront
     WasRefused : (count : ℕ) → z ≡ Refused n epoch count → parts_given ≡ None → IsComing z
     IsGiven : (told : Bool) (served : ℕ) → z ≡ Returned told n epoch served → (parts : EndpointParts) → parts_given ≡ Some parts → IsComing z
 
-  is-coming : (st : Station) (z : SeatNow) (d : ℕ) → NearSaid (at_seat k.files x.part st z) d n epoch (back_body parts_given) → IsComing z
+  -- or one that is told still
+  abbrev IsStillTold : ℕ → Type 0
+  IsStillTold d = (parts : EndpointParts) × (parts_given ≡ Some parts) × (tells_over (x.part.nodes n) ≡ Some (epoch, true)) × (2 ≤ d)
+
+  is-coming : (st : Station) (z : SeatNow) (d : ℕ) → NearSaid (at_seat k.files x.part st z) d n epoch (back_body parts_given) → IsComing z ⊎ IsStillTold d
   is-coming st z d = by parts_given refl where
     refused : parts_given ≡ None → (y : SeatNow) → NearSaid (at_seat k.files x.part st y) d n epoch body.Refused → IsComing y
     refused none (Refused m f count) h = WasRefused count (λ i. Refused (h.0 i) (h.1 i) count) none
     refused none _ h = absurd h
 
-    given_so : (parts : EndpointParts) → parts_given ≡ Some parts → (y : SeatNow) → NearSaid (at_seat k.files x.part st y) d n epoch (body.Give parts)
-        → IsComing y
+    given_so : (parts : EndpointParts) → parts_given ≡ Some parts → (y : SeatNow) → NearReturn d n epoch (post_of k.files st.client y) → IsComing y
     given_so parts some (Returned told m f served) h = IsGiven told served (λ i. Returned told (h.0 i) (h.1 i) served) parts some
     given_so parts some _ h = absurd h
 
-    by : (o : Option EndpointParts) → parts_given ≡ o → NearSaid (at_seat k.files x.part st z) d n epoch (back_body o) → IsComing z
-    by None none h = refused none z h
-    by (Some parts) some h = given_so parts some z h
+    by : (o : Option EndpointParts) → parts_given ≡ o → NearSaid (at_seat k.files x.part st z) d n epoch (back_body o) → IsComing z ⊎ IsStillTold d
+    by None none h = inl (refused none z h)
+    by (Some parts) some (inl h) = inl (given_so parts some z h)
+    by (Some parts) some (inr h) = inr (parts, some, h.0, h.1)
 
   -- then it is taken back
   not-dropped : IsComing (seat_of x.part) → deed ≡ Drops → ⊥
@@ -87,6 +96,24 @@ module _ (k : Setting) (w : Whole) (x : Conn) (env : FrontEnv) (is_env : IsFront
       let taken : deed ≡ does_first (back_notes env.serve.c row) [] (reads_on env p row f.3) =
       ap (front_returned env p n epoch) none ∙ (λ i. returned_by env p [] (f.1 i) (answer i) (f.4 i)) in
       never-drops env p [] row f.3 (sym taken ∙ drops)
+
+  -- and one that is told still is answered, or taken back
+  still-answered : (d : ℕ) → IsStillTold d → deed ≡ Drops → ⊥
+  still-answered d (parts, some, told, low) drops = go (given.back.told n epoch told) where
+    go : ((row : FrontRow) × (p.row ≡ Some row) × ((epoch < row.epoch.0) ⊎ ((t : Bool) × (served : ℕ) × (seat_of x.part ≡ Returned t n epoch served)))) → ⊥
+    go (row, found, inr at) = not-dropped (IsGiven at.0 at.1 at.2 parts some) drops
+    go (row, found, inl past) =
+        let said : List (Place × List ℕ) = given_sent env.serve.c n epoch (Some parts) in
+        let Stays : Back → Type 0 = λ a. returned_by env p said (Some row) a (Some parts) ≡ Drops → ⊥ in
+        let again : Stays back.Again = λ f. cc in
+        let lt : nat_lt epoch row.epoch.0 ≡ true = less-so epoch row.epoch.0 past in
+        let late : Stays (cond (nat_lt epoch row.epoch.0) back.Again back.Stale) = subst (λ t. Stays (cond t back.Again back.Stale)) (sym lt) again in
+        let answered : Stays (back_answer n epoch (Some parts) (Some row)) =
+        cond_both (is_with n epoch row.stage) (cond (is_away epoch row.stage) (back.New (next_epoch row)) (cond (nat_lt epoch row.epoch.0) back.Again back.Stale))
+        (cond (nat_lt epoch row.epoch.0) back.Again back.Stale) Stays
+        (λ t. cond_both (is_away epoch row.stage) (back.New (next_epoch row)) (cond (nat_lt epoch row.epoch.0) back.Again back.Stale) Stays
+        (λ u. never-drops env p said row parts) (λ u. late)) (λ t. late) in
+        answered (sym (ap (front_returned env p n epoch) some ∙ (λ i. returned_by env p said (found i) (back_answer n epoch (Some parts) (found i)) (Some parts))) ∙ drops)
 
   -- ---- it comes back
 
@@ -180,7 +207,10 @@ module _ (k : Setting) (w : Whole) (x : Conn) (env : FrontEnv) (is_env : IsFront
       (message env.serve.c epoch body.Given) epoch body.Given refl
       (reads x.c env.serve.c epoch body.Given is_env.number number (given.back.gives n epoch parts bytes give sent) tt tt)
       (λ z seat. let one : chain (at_seat k.files x.part st z) x.c (l k w x n bytes) ≡ 1 = ap (of_message (λ m. node_chain m.body)) give in omega (arith, one))
-      (λ z seat d near. absurd (out (subst IsComing (sym seat) (is-coming st z (suc d) (near-said (at_seat k.files x.part st z) (suc d) near)))))
+      (λ z seat d near. ⊎_elim
+      (λ (c : IsComing z). absurd (out (subst IsComing (sym seat) c)))
+      (λ (h : IsStillTold (suc d)). let two : 2 ≤ suc d = h.3 in (h.2, omega (arith, two)))
+      (is-coming st z (suc d) (near-said (at_seat k.files x.part st z) (suc d) near)))
 
   -- what comes back does so in the front end's epoch
   past-out : (parts : EndpointParts) → parts_given ≡ Some parts → (row : FrontRow) → p.row ≡ Some row → epoch < row.epoch.0 → IsComing (seat_of x.part) → ⊥
@@ -198,8 +228,10 @@ module _ (k : Setting) (w : Whole) (x : Conn) (env : FrontEnv) (is_env : IsFront
         (back_answer n epoch parts_given o) (parts_back p parts_given))) (sym (given.unopened none))
         (unopened-owes k w x n bytes none)
     by-station (Some st) was = returned-keeps env p (λ (d : FrontDeed). deed ≡ d → Owes k w x n bytes d)
-        (λ same. drops-owes k w x n bytes st was (λ z seat d near.
-        not-dropped (subst IsComing (sym seat) (is-coming st z (suc d) (near-said (at_seat k.files x.part st z) (suc d) near))) same))
+        (λ same. drops-owes k w x n bytes st was (λ z seat d near. ⊎_elim
+        (λ (c : IsComing z). not-dropped (subst IsComing (sym seat) c) same)
+        (λ (h : IsStillTold (suc d)). still-answered (suc d) h same)
+        (is-coming st z (suc d) (near-said (at_seat k.files x.part st z) (suc d) near))))
         n epoch parts_given
         (λ parts some row found past same. again-owes st was parts some (past-out parts some row found past))
         (λ row parts is same. comes-owes st was row parts is)

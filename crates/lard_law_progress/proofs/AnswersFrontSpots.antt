@@ -5,7 +5,7 @@ use Rattle.lard_law_view.specs.Prelude.{BackConn, BackRow, Client, Conn, Control
 use Rattle.lard_bound.specs.Chains.{chain, chain_between, is_current, reply_chain, word_chain}
 use Rattle.lard_bound.specs.Nears.{Near}
 use Rattle.lard_bound.specs.Progress.{Answers, Any, Every, Lasts, NearOn, chain_at, chain_on, spot_at, spot_with}
-use Rattle.lard_bound.specs.Seats.{Gone, Here, Offered, Refused, Returned, SeatNow, seat_away, seat_by, seat_decided, seat_of, seat_over, seat_over_by, seat_there, seat_untaken, staying_of, tells_end}
+use Rattle.lard_bound.specs.Seats.{Gone, Here, Offered, Refused, Returned, SeatNow, seat_away, seat_by, seat_decided, seat_of, seat_over, seat_over_by, seat_there, seat_untaken, staying_of, tells_over}
 use Rattle.lard_bound.specs.Spots.{Nowhere, Post, Spot, post_of, spot_of}
 use Rattle.lard_bound.specs.Units.{Whole, left_to_client, left_with, units}
 use Rattle.lard_handoff_back.specs.declared.row.BackConn.TheVariants as back
@@ -22,7 +22,7 @@ at_seat files p st z = record {
   una = st.client.send.una;
   last = symbols st.client.send;
   post = post_of files st.client z;
-  telling = λ n. tells_end (p.nodes n).row;
+  telling = λ n. tells_over (p.nodes n);
 }
 
 pub spot-seat : (files : FilesAt) (p : Part) (st : Station) (z : SeatNow) → seat_of p ≡ z → spot_of files p st ≡ at_seat files p st z
@@ -34,7 +34,7 @@ spot-seat files p st z e = λ i. record {
   una = st.client.send.una;
   last = symbols st.client.send;
   post = post_of files st.client (e i);
-  telling = λ n. tells_end (p.nodes n).row;
+  telling = λ n. tells_over (p.nodes n);
 }
 
 -- by what the front end keeps

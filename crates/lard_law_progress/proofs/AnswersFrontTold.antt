@@ -5,7 +5,7 @@ use Rattle.std.proofs.lemmas.Bool.{cond_both, eq-eqb, eqb-true}
 use Rattle.lard_law_view.specs.Prelude.{ClientBlock, Conn, Epoch, Final, FrontConn, FrontEnv, FrontRow, IsConnNumber, IsFrontEnv, NodePart, Reason, Setting, SpellsMessage, Station, ack_sent, asked_node, end_answer, ended_with, front_ended, front_ended_by, front_rest, front_saying, front_taken, is_away, next_epoch, offered_to, taken_by}
 use Rattle.lard_bound.specs.Chains.{chain, node_chain, of_message}
 use Rattle.lard_bound.specs.Nears.{Near, NearEnding, NearSaid, NearTaken, OfMessage}
-use Rattle.lard_bound.specs.Seats.{Gone, Held, Here, Offered, Over, Refused, Returned, SeatNow, Unborn, Waiting, seat_away, seat_in, seat_of, tells_end}
+use Rattle.lard_bound.specs.Seats.{Gone, Held, Here, Offered, Over, Refused, Returned, SeatNow, Unborn, Waiting, seat_away, seat_in, seat_of, tells_over}
 use Rattle.lard_bound.specs.Spots.{Spot, post_of}
 use Rattle.lard_bound.specs.Units.{Whole}
 use Rattle.lard_rules.specs.Front.{Says, message}
@@ -84,7 +84,7 @@ module _ (k : Setting) (w : Whole) (x : Conn) (env : FrontEnv) (is_env : IsFront
 
   -- an end that is near is of a node that the connection is with, or was told before
   near-end : (st : Station) (z : SeatNow) → seat_of x.part ≡ z → (row : FrontRow) → x.part.front.row ≡ Some row → is_away epoch row.stage ≡ false → (d : ℕ) → NearEnding (at_seat k.files x.part st z) (suc d) n epoch (post_of k.files st.client z)
-      → (tells_end (x.part.nodes n).row ≡ Some epoch) × (1 ≤ d) × (ended_with epoch row.ended_by ≡ true)
+      → (tells_over (x.part.nodes n) ≡ Some (epoch, false)) × (1 ≤ d) × (ended_with epoch row.ended_by ≡ true)
   near-end st Unborn seat row is out d near = absurd near
   near-end st (Held b c) seat row is out d near = absurd near
   near-end st (Waiting b c) seat row is out d near = absurd near

@@ -1,11 +1,11 @@
 -- A packet to a node or to a client of which nothing comes, since nobody hears it: it was not near.
-use Rattle.std.proofs.Common.{◌≡◌, ℕ, suc, true, false, List, length, Option, Some, None, Result, Ok, Err, inr, refl, sym, ap, ◌∙◌, subst}
+use Rattle.std.proofs.Common.{◌≡◌, ℕ, suc, Bool, true, false, List, length, Option, Some, None, Result, Ok, Err, inr, refl, sym, ap, ◌∙◌, subst}
 use Rattle.std.specs.List.{find}
 use Rattle.lard_law_view.specs.Prelude.{BackRow, Body, Client, Conn, Front, IsForNode, IsUnheard, Message, MsgFault, Node, Place, Said, SegFault, Setting, Station, ToCluster, decoded, decoded_message, is_from, is_no_node, is_under, kind_of, nothing_said, packet_seen, stands}
 use Rattle.lard_base.specs.declared.place.TimerKind.TheVariants as timer
 use Rattle.lard_bound.specs.Nears.{Near, NearAside, NearForward, NearOffer, NearTold, OfMessage}
 use Rattle.lard_bound.specs.Progress.{Answers, IsFetch, NearOn, spot_with}
-use Rattle.lard_bound.specs.Seats.{Gone, Here, Offered, Refused, Returned, SeatNow, seat_of, tells_end}
+use Rattle.lard_bound.specs.Seats.{Gone, Here, Offered, Refused, Returned, SeatNow, seat_of, telling_by, tells_end}
 use Rattle.lard_bound.specs.Spots.{Spot, post_of, spot_of}
 use Rattle.lard_bound.specs.Units.{Whole}
 use Rattle.lard_message.specs.declared.message.Body.TheVariants as body
@@ -38,7 +38,7 @@ module _ (k : Setting) (w : Whole) (x : Conn) where
       go (Gone told m f) is sits h = row-there m sits.row sits.there h.0
       go (Returned told m f served) is sits h = row-there m sits.row sits.there h.0
       go (Offered m f count) is sits h = subst there h.0 (given.placed m f count is)
-      go (Refused m f count) is sits h = absurd (given.unrefused m f count is)
+      go (Refused m f count) is sits h = subst there h.0 (given.declined m f count is)
       go _ is sits h = absurd h
 
     forward-there : (d e : ℕ) (r : Result Said SegFault) → NearForward t d n e r t.post → there n
@@ -48,11 +48,11 @@ module _ (k : Setting) (w : Whole) (x : Conn) where
         let h = forward-awaits k.files x.part st n e d s (subst F (seated-is k.files x.part st) near) in
         row-there n _ h.2.there refl
 
-    ended-there : (e : ℕ) → t.telling n ≡ Some e → there n
+    ended-there : (e : ℕ) (goes_back : Bool) → t.telling n ≡ Some (e, goes_back) → there n
     unfolding spot_of
-    ended-there e is = go (x.part.nodes n).row refl is where
-      go : (o : Option BackRow) → (x.part.nodes n).row ≡ o → tells_end o ≡ Some e → there n
-      go None row f = absurd (let bad : None ≡ Some e = f in cc)
+    ended-there e goes_back is = go (x.part.nodes n).row refl is where
+      go : (o : Option BackRow) → (x.part.nodes n).row ≡ o → telling_by (tells_end o) (x.part.nodes n).beside.returned ≡ Some (e, goes_back) → there n
+      go None row f = absurd (let bad : ◌≡◌ {A = Option (ℕ × Bool)} None (Some (e, goes_back)) = f in cc)
       go (Some row) at f = given.there n row at
 
     -- what the front end tells a node that is there, of which a node hears
@@ -67,7 +67,8 @@ module _ (k : Setting) (w : Whole) (x : Conn) where
       by-body m is (body.Tag number nodes) f h =
           let a = ask-awaits k.files x.part st n m.epoch.0 1 number (length nodes) h.0 in
           both (row-there n _ a.2.there refl) (none m is (subst (λ (b : Body). IsForNode (kind_of b)) (sym f) tt))
-      by-body m is body.EndedAck f h = both (ended-there m.epoch.0 h.0) (none m is (subst (λ (b : Body). IsForNode (kind_of b)) (sym f) tt))
+      by-body m is body.EndedAck f h = both (ended-there m.epoch.0 false h.0) (none m is (subst (λ (b : Body). IsForNode (kind_of b)) (sym f) tt))
+      by-body m is body.Given f h = both (ended-there m.epoch.0 true h.0) (none m is (subst (λ (b : Body). IsForNode (kind_of b)) (sym f) tt))
       by-body m is _ f h = h
 
       go : (o : Result Message MsgFault) → decoded_message bytes ≡ o → OfMessage (λ (m : Message). NearTold t x.c (suc d) n m.epoch.0 m.body) o → ⊥

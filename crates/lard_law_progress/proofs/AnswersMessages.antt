@@ -1,8 +1,8 @@
 -- What is read of the messages by which a node answers, and how far they lead.
-use Rattle.std.proofs.Common.{◌≡◌, ◌≤◌, ℕ, List, length, sym, ap, subst}
+use Rattle.std.proofs.Common.{◌≡◌, ◌≤◌, ℕ, Bool, true, false, List, length, refl, sym, ap, ◌∙◌, subst}
 use Rattle.lard_law_view.specs.Prelude.{Body, EndpointParts, FilesAt, Front, IsMessage, Letter, MAX_FILE_BYTES, Message, Node}
 use Rattle.lard_bound.specs.Chains.{aside_chain, chain, node_chain, of_message}
-use Rattle.lard_bound.specs.Nears.{Near, NearSaid, NearTaken, OfMessage}
+use Rattle.lard_bound.specs.Nears.{Near, NearSaid, OfMessage}
 use Rattle.lard_bound.specs.Spots.{Spot}
 use Rattle.lard_message.specs.declared.message.Body.TheVariants as body
 use Rattle.lard_message.proofs.Whole.{again}
@@ -25,17 +25,26 @@ module _ (files : FilesAt) (t : Spot) (c e r n to : ℕ) (file : List ℕ) (may 
   pub content-chain : chain t c (content_letter n to c e r file) ≡ 0
   content-chain = ap (of_message (λ (m : Message). aside_chain m.body)) (again (of_conn c e (body.Content r file)) may)
 
--- ---- Taken
+-- ---- what answers an Offer: that it was taken, or refused
 
-abbrev pub taken_letter : ℕ → ℕ → ℕ → Letter
-taken_letter n c e = record { from = Node n; to = Front; bytes = message c e body.Taken }
+abbrev pub answer_body : Bool → Body
+answer_body true = body.Taken
+answer_body false = body.Refused
 
-pub taken-may : (c e : ℕ) (parts : EndpointParts) → IsMessage (of_conn c e (body.Offer parts)) → IsMessage (of_conn c e body.Taken)
-taken-may c e parts h = record { some_connection = h.some_connection; connection = h.connection; epoch = h.epoch; table = tt; fits = tt }
+abbrev pub answer_letter : ℕ → ℕ → ℕ → Bool → Letter
+answer_letter n c e takes = record { from = Node n; to = Front; bytes = message c e (answer_body takes) }
 
-module _ (files : FilesAt) (t : Spot) (c e n : ℕ) (may : IsMessage (of_conn c e body.Taken)) where
-  pub taken-chain : chain t c (taken_letter n c e) ≡ 0
-  taken-chain = ap (of_message (λ (m : Message). node_chain m.body)) (again (of_conn c e body.Taken) may)
+pub answer-may : (c e : ℕ) (parts : EndpointParts) (takes : Bool) → IsMessage (of_conn c e (body.Offer parts)) → IsMessage (of_conn c e (answer_body takes))
+answer-may c e parts true h = record { some_connection = h.some_connection; connection = h.connection; epoch = h.epoch; table = tt; fits = tt }
+answer-may c e parts false h = record { some_connection = h.some_connection; connection = h.connection; epoch = h.epoch; table = tt; fits = tt }
 
-  pub taken-near : (d : ℕ) → NearTaken d e t.post → Near files t c d (taken_letter n c e)
-  taken-near d near = subst (OfMessage (λ (m : Message). NearSaid t d n m.epoch.0 m.body)) (sym (again (of_conn c e body.Taken) may)) near
+module _ (files : FilesAt) (t : Spot) (c e n : ℕ) (takes : Bool) (may : IsMessage (of_conn c e (answer_body takes))) where
+  -- nothing comes of it
+  pub answer-chain : chain t c (answer_letter n c e takes) ≡ 0
+  answer-chain = ap (of_message (λ (m : Message). node_chain m.body)) (again (of_conn c e (answer_body takes)) may) ∙ none takes where
+    none : (takes : Bool) → node_chain (answer_body takes) ≡ 0
+    none true = refl
+    none false = refl
+
+  pub answer-near : (d : ℕ) → NearSaid t d n e (answer_body takes) → Near files t c d (answer_letter n c e takes)
+  answer-near d near = subst (OfMessage (λ (m : Message). NearSaid t d n m.epoch.0 m.body)) (sym (again (of_conn c e (answer_body takes)) may)) near

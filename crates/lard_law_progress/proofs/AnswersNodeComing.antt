@@ -1,18 +1,18 @@
--- What comes of a Tag, of a content, and of the acknowledgement of an end: where no unit goes they did not count, and were not near.
-use Rattle.std.proofs.Common.{◌≡◌, ◌==◌, ◌&&◌, ℕ, suc, Bool, true, false, List, [], length, is_some, Option, Some, None, refl, sym, ap, ◌∙◌, subst, arith}
+-- What comes of a Tag, of a content, and of what answers that a stay is over: where no unit goes they did not count, and were not near.
+use Rattle.std.proofs.Common.{◌≡◌, ◌==◌, ◌&&◌, not, ℕ, suc, Bool, true, false, List, [], length, is_some, Option, Some, None, refl, sym, ap, ◌∙◌, subst, arith}
 use Rattle.std.specs.List.{find}
 use Rattle.std.proofs.lemmas.Bool.{and_parts, cond_both, cond-false, cond-true}
 use Rattle.std.proofs.lemmas.Bool.Decides.{nat_tests}
-use Rattle.lard_law_view.specs.Prelude.{BackConn, BackRow, Conn, ControlBlock, FilesAt, Front, IsNodeEnv, Kept, Message, Node, NodeEnv, NodePart, Part, Setting, SpellsMessage, Station, Stay, Was, awaits_ack, came_for, come_by, come_progress, goes_on, gone, here, is_ended, is_from, is_tag_awaited, is_under, named_paths, node_acknowledged, node_content, node_put_back, node_rests, node_saying, node_tagged, tagged, tagged_by, with_node, with_work, without, work_of}
+use Rattle.lard_law_view.specs.Prelude.{BackConn, BackRow, Conn, ControlBlock, FilesAt, Front, IsNodeEnv, Kept, Message, Node, NodeEnv, NodePart, Part, Setting, SpellsMessage, Station, Stay, Was, ack_body, awaits_ack, awaits_told, came_for, come_by, come_progress, goes_on, gone, here, is_ended, is_from, is_tag_awaited, is_under, named_paths, node_acknowledged, node_content, node_put_back, node_rests, node_saying, node_tagged, node_turns, tagged, tagged_by, told_kind, with_node, without, work_of}
 use Rattle.lard_base.specs.declared.place.TimerKind.TheVariants as kind
 use Rattle.lard_bound.specs.Nears.{IsAwaited, IsWanted, Near, NearAsk, NearAside, NearTold, OfMessage}
-use Rattle.lard_bound.specs.Seats.{Here, SeatNow, seat_of, stay_of, staying_of, telling, tells_end}
+use Rattle.lard_bound.specs.Seats.{Here, SeatNow, seat_of, stay_of, staying_of, telling, telling_by, tells_end, tells_over}
 use Rattle.lard_bound.specs.Spots.{Spot, awaits_of, post_of, spot_of}
 use Rattle.lard_bound.specs.Units.{Whole}
 use Rattle.lard_handoff_back.specs.declared.row.BackConn.TheVariants as back
 use Rattle.lard_message.specs.declared.message.Body.TheVariants as body
 use Rattle.lard_rules.specs.Node as node
-use Rattle.lard_law_progress.proofs.AnswersNodeDeeds.{OwesBy, does-owes, drops-owes, is-here}
+use Rattle.lard_law_progress.proofs.AnswersNodeDeeds.{OwesBy, does-owes, drops-owes, is-here, turns-does, turns-owes}
 use Rattle.lard_law_progress.proofs.AnswersNodeGiven.{NodeGiven}
 use Rattle.lard_law_progress.proofs.AnswersNodeSeats.{IsHere, Sits, here-both, seat-sits}
 use Rattle.lard_law_progress.proofs.AnswersNodeStill.{content-falls, post-is, still, tag-falls}
@@ -93,8 +93,8 @@ module _ (k : Setting) (w : Whole) (x : Conn) (n epoch : ℕ) (env : NodeEnv) (o
     tag-dropped : node_tagged env q number nodes ≡ node.Drops → Tags node.Drops
     tag-dropped e = drops-owes k w x n Front bytes was (λ given st st_is d near.
         let h = counts given st d near in
-        let bad : with_work env (record q { kept = without kind.Ask 0 q.kept }) [] (goes_on env (tagged env nodes (work_of h.0 h.1))) ≡ node.Drops =
-        sym (ap (tagged_by env number nodes q) h.2 ∙ cond-true (is_tag_awaited env number nodes q h.1) _ node.Drops h.3) ∙ e in cc)
+        turns-does env (record q { kept = without kind.Ask 0 q.kept }) [] (goes_on env (tagged env nodes (work_of h.0 h.1)))
+        (sym (ap (tagged_by env number nodes q) h.2 ∙ cond-true (is_tag_awaited env number nodes q h.1) _ node.Drops h.3) ∙ e))
 
     pub tagged-owes : Tags (node_tagged env q number nodes)
     tagged-owes = where-here env.epoch q (λ o. here env.epoch q ≡ o → Tags (tagged_by env number nodes q o))
@@ -102,12 +102,14 @@ module _ (k : Setting) (w : Whole) (x : Conn) (n epoch : ℕ) (env : NodeEnv) (o
         (λ b s at is.
         let pp : NodePart = record q { kept = without kind.Ask 0 q.kept } in
         let v = goes_on env (tagged env nodes (work_of b s)) in
-        cond_both (is_tag_awaited env number nodes q s) (with_work env pp [] v) node.Drops Tags
-        (λ t. does-owes k w x n Front bytes was (λ given. given.opened n bytes was) (node_rests env pp [] v) (λ given after warm late st st_is c_is up same.
-        let home = is-here k w x given n env.epoch b (here-row env.epoch q b s at) in
+        let row = here-row env.epoch q b s at in
+        cond_both (is_tag_awaited env number nodes q s) (node_turns env pp [] v) node.Drops Tags
+        (λ t. turns-owes k w x n Front bytes was env pp [] v b row (does-owes k w x n Front bytes was (λ given. given.opened n bytes was) (node_rests env pp [] v)
+        (λ given after warm late st st_is c_is up same.
+        let home = is-here k w x given n env.epoch b row in
         absurd (tag-falls k.files x.part st home.0 n b env home.1 s nodes at.stays (and_parts _ _ t).0
-        (still k.files x.part st home.0 n b env home.1 pp [] v same))))
-        (λ f. tag-dropped (ap (tagged_by env number nodes q) is ∙ cond-false (is_tag_awaited env number nodes q s) (with_work env pp [] v) node.Drops f)))
+        (still k.files x.part st home.0 n b env home.1 pp [] v same)))))
+        (λ f. tag-dropped (ap (tagged_by env number nodes q) is ∙ cond-false (is_tag_awaited env number nodes q s) (node_turns env pp [] v) node.Drops f)))
         refl
 
   -- ---- a content
@@ -131,9 +133,8 @@ module _ (k : Setting) (w : Whole) (x : Conn) (n epoch : ℕ) (env : NodeEnv) (o
     content-dropped : node_content env q from r ≡ node.Drops → Brings node.Drops
     content-dropped e = drops-owes k w x n (Node from) bytes was (λ given st st_is d near.
         let h = wanted given st d near in
-        let bad : with_work env (record q { fetches = without kind.Fetch r q.fetches }) [] (goes_on env (came_for (come_progress from) r (work_of h.0 h.1))) ≡
-        node.Drops =
-        sym (ap (come_by env from r q) h.2 ∙ cond-true is_wanted _ node.Drops h.3) ∙ e in cc)
+        turns-does env (record q { fetches = without kind.Fetch r q.fetches }) [] (goes_on env (came_for (come_progress from) r (work_of h.0 h.1)))
+        (sym (ap (come_by env from r q) h.2 ∙ cond-true is_wanted _ node.Drops h.3) ∙ e))
 
     pub content-owes : Brings (node_content env q from r)
     content-owes = where-here env.epoch q (λ o. here env.epoch q ≡ o → Brings (come_by env from r q o))
@@ -142,58 +143,80 @@ module _ (k : Setting) (w : Whole) (x : Conn) (n epoch : ℕ) (env : NodeEnv) (o
         let row = here-row env.epoch q b s at in
         let pp : NodePart = record q { fetches = without kind.Fetch r q.fetches } in
         let v = goes_on env (came_for (come_progress from) r (work_of b s)) in
-        cond_both is_wanted (with_work env pp [] v) node.Drops Brings
-        (λ t. does-owes k w x n (Node from) bytes was (λ given. given.held n env.epoch b row) (node_rests env pp [] v)
+        cond_both is_wanted (node_turns env pp [] v) node.Drops Brings
+        (λ t. turns-owes k w x n (Node from) bytes was env pp [] v b row (does-owes k w x n (Node from) bytes was (λ given. given.held n env.epoch b row)
+        (node_rests env pp [] v)
         (λ given after warm late st st_is c_is up same.
         let home = is-here k w x given n env.epoch b row in
         absurd (content-falls k.files x.part st home.0 n b env home.1 s from r (awaited-some from env.epoch (find (is_under kind.Fetch r) q.fetches) t)
-        (still k.files x.part st home.0 n b env home.1 pp [] v same))))
-        (λ f. content-dropped (ap (come_by env from r q) is ∙ cond-false is_wanted (with_work env pp [] v) node.Drops f)))
+        (still k.files x.part st home.0 n b env home.1 pp [] v same)))))
+        (λ f. content-dropped (ap (come_by env from r q) is ∙ cond-false is_wanted (node_turns env pp [] v) node.Drops f)))
         refl
 
-  -- ---- the acknowledgement of an end
+  -- ---- what answers that a stay is over
 
-  module _ (bytes : List ℕ) (spells : SpellsMessage x.c epoch body.EndedAck bytes) (was : Was x Front (Node n) bytes) where
+  module _ (goes_back : Bool) (bytes : List ℕ) (spells : SpellsMessage x.c epoch (ack_body goes_back) bytes) (was : Was x Front (Node n) bytes) where
     abbrev Acks : node.NodeDeed → Type 0
     Acks deed = OwesBy k w x n Front bytes was deed
 
-    ack-near : (st : Station) (d : ℕ) → Near k.files (spot_of k.files x.part st) x.c (suc d) (record { from = Front; to = Node n; bytes = bytes }) → tells_end q.row ≡ Some epoch
+    near-told : (t : Spot) (d : ℕ) (g : Bool) → NearTold t x.c (suc d) n epoch (ack_body g) → t.telling n ≡ Some (epoch, g)
+    near-told t d false h = h.0
+    near-told t d true h = h.0
+
+    ack-near : (st : Station) (d : ℕ) → Near k.files (spot_of k.files x.part st) x.c (suc d) (record { from = Front; to = Node n; bytes = bytes })
+        → tells_over q ≡ Some (epoch, goes_back)
     unfolding spot_of
     ack-near st d near =
         let t = spot_of k.files x.part st in
-        let h : NearTold t x.c (suc d) n epoch body.EndedAck = subst (OfMessage (λ (m : Message). NearTold t x.c (suc d) n m.epoch.0 m.body)) spells near in h.0
+        near-told t d goes_back (subst (OfMessage (λ (m : Message). NearTold t x.c (suc d) n m.epoch.0 m.body)) spells near)
 
-    told-end : (o : Option BackRow) (e : ℕ) → tells_end o ≡ Some e → awaits_ack e o ≡ true
-    told-end None e is = absurd (let bad : None ≡ Some e = is in cc)
-    told-end (Some row) e is = go row.stage is where
-      go : (z : BackConn) → telling z row.epoch.0 ≡ Some e → ((row.epoch.0 == e) && is_ended z) ≡ true
-      go (back.Here b) f = absurd (let bad : None ≡ Some e = f in cc)
-      go back.Out f = absurd (let bad : None ≡ Some e = f in cc)
-      go back.Gone f = absurd (let bad : None ≡ Some e = f in cc)
-      go back.Ended f = let same : row.epoch.0 ≡ e = cc in first row.epoch.0 e same where
-        first : (a b : ℕ) → a ≡ b → ((a == b) && true) ≡ true
-        first a b s = grind (arith, nat_tests, s)
+    -- what it tells is what this answers
+    told-over : (o : Option BackRow) (r : Option ℕ) (e : ℕ) → telling_by (tells_end o) r ≡ Some (e, goes_back) → (awaits_ack e o ≡ true) × (is_some r ≡ goes_back)
+    told-over None r e is = absurd (let bad : ◌≡◌ {A = Option (ℕ × Bool)} None (Some (e, goes_back)) = is in cc)
+    told-over (Some row) r e is = go row.stage is where
+      none : ◌≡◌ {A = Option (ℕ × Bool)} None (Some (e, goes_back)) → ⊥
+      none f = cc
 
-    -- behind it the node tells no end
-    gone-tells : (o : Option BackRow) → tells_end (gone o) ≡ None
-    gone-tells None = refl
-    gone-tells (Some row) = refl
+      first : (a b : ℕ) → a ≡ b → ((a == b) && true) ≡ true
+      first a b s = grind (arith, nat_tests, s)
 
-    after-tells : (st : Station) (kept : List Kept) → spot_of k.files (with_node x.part n (record q { row = gone q.row; kept = kept })) st ≡ spot_of k.files x.part st → None ≡ tells_end q.row
+      go : (z : BackConn) → telling_by (telling z row.epoch.0) r ≡ Some (e, goes_back) → (((row.epoch.0 == e) && is_ended z) ≡ true) × (is_some r ≡ goes_back)
+      go (back.Here b) f = absurd (none f)
+      go back.Out f = absurd (none f)
+      go back.Gone f = absurd (none f)
+      go back.Ended f = let both : ◌≡◌ {A = ℕ × Bool} (row.epoch.0, is_some r) (e, goes_back) = cc in (first row.epoch.0 e (ap (λ p. p.0) both), ap (λ p. p.1) both)
+
+    awaits : (e : ℕ) (p : NodePart) → awaits_ack e p.row ≡ true → is_some p.beside.returned ≡ goes_back → (e ≡ env.epoch) → awaits_told goes_back env p ≡ true
+    awaits e p ack is same = go goes_back is where
+      at : awaits_ack env.epoch p.row ≡ true
+      at = ap (λ (i : ℕ). awaits_ack i p.row) (sym same) ∙ ack
+
+      go : (g : Bool) → is_some p.beside.returned ≡ g → awaits_told g env p ≡ true
+      go true f = ap (λ a. a && is_some p.beside.returned) at ∙ f
+      go false f = ap (λ a. a && not (is_some p.beside.returned)) at ∙ ap not f
+
+    -- behind it the node tells nothing
+    gone-tells : (o : Option BackRow) (r : Option ℕ) → telling_by (tells_end (gone o)) r ≡ None
+    gone-tells None r = refl
+    gone-tells (Some row) r = refl
+
+    after-tells : (st : Station) (kept : List Kept) → spot_of k.files (with_node x.part n (record q { row = gone q.row; kept = kept })) st ≡ spot_of k.files x.part st
+        → None ≡ tells_over q
     unfolding spot_of
     after-tells st kept same =
         let r : NodePart = record q { row = gone q.row; kept = kept } in
-        let t : tells_end (node_put_back x.part.nodes n r n).row ≡ tells_end q.row = ap (λ (s : Spot). s.telling n) same in
-        sym (ap (λ (z : NodePart). tells_end z.row) (put-there x.part.nodes n r) ∙ gone-tells q.row) ∙ t
+        let t : tells_over (node_put_back x.part.nodes n r n) ≡ tells_over q = ap (λ (s : Spot). s.telling n) same in
+        sym (ap tells_over (put-there x.part.nodes n r) ∙ gone-tells q.row q.beside.returned) ∙ t
 
-    pub acknowledged-owes : Acks (node_acknowledged env q)
-    acknowledged-owes = cond_both (awaits_ack env.epoch q.row) (node.Does (record q { row = gone q.row; kept = without kind.Ended 0 q.kept }, node_saying []))
-        node.Drops Acks
+    pub acknowledged-owes : Acks (node_acknowledged env goes_back q)
+    acknowledged-owes =
+        cond_both (awaits_told goes_back env q) (node.Does (record q { row = gone q.row; kept = without (told_kind goes_back) 0 q.kept }, node_saying [])) node.Drops Acks
         (λ t. does-owes k w x n Front bytes was (λ given. given.opened n bytes was)
-        (record q { row = gone q.row; kept = without kind.Ended 0 q.kept }, node_saying []) (λ given after warm late st st_is c_is up same. record {
+        (record q { row = gone q.row; kept = without (told_kind goes_back) 0 q.kept }, node_saying []) (λ given after warm late st st_is c_is up same. record {
           shorter = tt;
-          leads = λ d near. absurd (let bad : None ≡ Some epoch = after-tells st (without kind.Ended 0 q.kept) same ∙ ack-near st d near in cc);
+          leads = λ d near. absurd (let bad : ◌≡◌ {A = Option (ℕ × Bool)} None (Some (epoch, goes_back)) =
+              after-tells st (without (told_kind goes_back) 0 q.kept) same ∙ ack-near st d near in cc);
         }))
         (λ f. drops-owes k w x n Front bytes was (λ given st st_is d near.
-        let yes : awaits_ack env.epoch q.row ≡ true = ap (λ (e : ℕ). awaits_ack e q.row) of.epoch_is ∙ told-end q.row epoch (ack-near st d near) in
-        let bad : true ≡ false = sym yes ∙ f in cc))
+        let told = told-over q.row q.beside.returned epoch (ack-near st d near) in
+        let bad : true ≡ false = sym (awaits epoch q told.0 told.1 (sym of.epoch_is)) ∙ f in cc))

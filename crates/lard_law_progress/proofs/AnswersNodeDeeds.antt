@@ -1,6 +1,7 @@
 -- What a node's deed owes, of a packet that came to it.
 use Rattle.std.proofs.Common.{◌≡◌, ◌≤◌, ℕ, suc, Bool, List, map, Option, None, Some, refl, subst}
-use Rattle.lard_law_view.specs.Prelude.{Conn, ControlBlock, Letter, Move, Node, NodeDeed, NodePart, NodeTurn, Place, Setting, Station, Was, grown, letter, letters_of, node_does, nothing_said, packet_seen, stands, with_node}
+use Rattle.std.proofs.lemmas.Bool.{cond_both}
+use Rattle.lard_law_view.specs.Prelude.{Conn, ControlBlock, Letter, Move, Node, NodeDeed, NodeEnv, NodePart, NodeTurn, Place, Setting, Station, Was, Work, gives_back, grown, kept_back, letter, letters_of, may_give_back, node_does, node_turns, nothing_said, packet_seen, stands, turn_back, with_node, with_work}
 use Rattle.lard_bound.specs.Nears.{Near}
 use Rattle.lard_bound.specs.Progress.{Answers, IsWarm, NearOn, spot_with}
 use Rattle.lard_bound.specs.Spots.{spot_of}
@@ -9,6 +10,12 @@ use Rattle.lard_rules.specs.Node as node
 use Rattle.lard_law_progress.proofs.AnswersForm.{IsLateOn, Owes, Replies, answers-by, no-reply}
 use Rattle.lard_law_progress.proofs.AnswersNodeGiven.{HasIt, NodeGiven}
 use Rattle.lard_law_progress.proofs.AnswersNodeSeats.{IsHere}
+use Rattle.lard_law_progress.proofs.AnswersNodeStill.{back-moves}
+
+-- a turn is never dropped
+pub turns-does : (env : NodeEnv) (pp : NodePart) (before : List (Place × List ℕ)) (v : Work) → node_turns env pp before v ≡ node.Drops → ⊥
+turns-does env pp before v = cond_both (may_give_back env v) (gives_back env pp before v) (with_work env pp before v) (λ (d : NodeDeed). d ≡ node.Drops → ⊥)
+    (λ t e. cc) (λ t e. cc)
 
 module _ (k : Setting) (w : Whole) (x : Conn) where
   -- where a node has it
@@ -68,3 +75,12 @@ module _ (k : Setting) (w : Whole) (x : Conn) where
         let o = opens may.given in
         answers-by k w x (moved given) came_letter o.0 o.0 o.1 o.1 lasts
         (λ up same. wanted may.given after warm late o.0 o.1 (may.sound.client o.0 o.1) (left-same (moved given) o.0 o.1 o.1 up) same)
+
+    -- a turn ends: where the connection goes back, that is a unit
+    pub turns-owes : (env : NodeEnv) (pp : NodePart) (before : List (Place × List ℕ)) (v : Work) (b : ControlBlock) → HasIt x n env.epoch b
+        → OwesBy (with_work env pp before v) → OwesBy (node_turns env pp before v)
+    turns-owes env pp before v b has rests = cond_both (may_give_back env v) (gives_back env pp before v) (with_work env pp before v) OwesBy
+        (λ t. does-owes (λ given. given.held n env.epoch b has) (kept_back env pp v, turn_back env before v) (λ given after warm late st st_is c_is up same.
+        let home = is-here given n env.epoch b has in
+        absurd (back-moves k.files x.part st home.0 n b env home.1 pp v same)))
+        (λ f. rests)

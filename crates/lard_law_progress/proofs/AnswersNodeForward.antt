@@ -3,7 +3,7 @@
 use Rattle.std.proofs.Common.{◌≡◌, ◌⊎◌, ◌<◌, ◌≤◌, ◌+◌, ◌==◌, ◌&&◌, ◌||◌, nat_lt, not, ℕ, suc, Bool, true, false, cond, List, [], ◌∷◌, ◌++◌, length, map, Option, Some, None, Result, Ok, Err, inl, inr, ⊎_elim, refl, sym, ap, ◌∙◌, subst, arith}
 use Rattle.std.proofs.lemmas.Bool.{and_parts, cond-false, eqb-true, or_cases}
 use Rattle.std.proofs.lemmas.Bool.Decides.{nat_tests}
-use Rattle.lard_law_view.specs.Prelude.{Body, Client, Conn, ControlBlock, FilesAt, Front, IsNodeEnv, Letter, Message, MsgFault, Node, NodeEnv, NodePart, Part, Phase, Place, Said, SegFault, Setting, SpellsMessage, Station, Stay, ToClient, ToCluster, Was, Work, ack_ready, decoded, decoded_message, goes_on, here, kept_after, letter, node_forwarded, node_heard_by, node_rests, on_segment, seg_len, seq_offset, spelled, symbols, to_client, told, with_node, with_work, work_of}
+use Rattle.lard_law_view.specs.Prelude.{Body, Client, Conn, ControlBlock, FilesAt, Front, IsNodeEnv, Letter, Message, MsgFault, Node, NodeEnv, NodePart, Part, Phase, Place, Said, SegFault, Setting, SpellsMessage, Station, Stay, ToClient, ToCluster, Was, Work, ack_ready, decoded, decoded_message, goes_on, here, kept_after, letter, node_forwarded, node_heard_by, node_rests, node_turns, on_segment, seg_len, seq_offset, spelled, symbols, to_client, told, with_node, with_work, work_of}
 use Rattle.lard_bound.specs.Chains.{aside_chain, chain, front_chain, is_current, is_plain, node_chain, of_message, reply_chain, word_chain, word_result}
 use Rattle.lard_bound.specs.Nears.{Crosses, IsNews, Near, NearForward, NearHeld, NearReply, NearSegment, NearTold, OfMessage, OfSegment}
 use Rattle.lard_bound.specs.Progress.{Any, Every, IsFetch, IsWarm, IsWarmBody, IsWarmBy, IsWarmMessage, IsWarmSegment, IsWarmWord}
@@ -18,7 +18,7 @@ use Rattle.lard_law_progress.proofs.AnswersFrontData.{all-sent, answer, answer-f
 use Rattle.lard_law_progress.proofs.AnswersFrontGiven.{IsTalking}
 use Rattle.lard_law_progress.proofs.AnswersFrontSaying.{ack-known, at-awaited, current-fits, one-said, refused}
 use Rattle.lard_law_progress.proofs.AnswersNodeComing.{at-same}
-use Rattle.lard_law_progress.proofs.AnswersNodeDeeds.{OwesBy, does-owes, drops-owes, is-here}
+use Rattle.lard_law_progress.proofs.AnswersNodeDeeds.{OwesBy, does-owes, drops-owes, is-here, turns-owes}
 use Rattle.lard_law_progress.proofs.AnswersNodeGiven.{IsForwarded}
 use Rattle.lard_law_progress.proofs.AnswersNodeHearing.{Hears, IsStill, alike, hears-stale, no-messages, not-reset, same-window, segments-are, silent-segments, stale-same, una-same, v}
 use Rattle.lard_law_progress.proofs.AnswersNodeSeats.{IsHere, Sits, here-both, here-seat, seat-sits}
@@ -235,9 +235,9 @@ module _ (k : Setting) (w : Whole) (x : Conn) (n epoch : ℕ) (env : NodeEnv) (o
       let c : IsWarmBody st.client (body.Forward segment) = subst (IsWarmMessage st.client) spells a in
       subst (IsWarmSegment st.client) (ap (λ m. decoded segment m ToCluster) c_is ∙ read) c
 
-  heard-owes : (s : Said) → decoded segment x.c ToCluster ≡ Ok s → (b : ControlBlock) (stay : Stay) → IsHereWith env.epoch q b stay
+  rests-owes : (s : Said) → decoded segment x.c ToCluster ≡ Ok s → (b : ControlBlock) (stay : Stay) → IsHereWith env.epoch q b stay
       → Forwards (with_work env q [] (goes_on env (work_of (on_segment b s).1 stay)))
-  heard-owes s read b stay is = does-owes k w x n Front bytes was (λ given. given.opened n bytes was) (node_rests env q [] (goes_on env (work_of (on_segment b s).1 stay))) (λ given after warm late st st_is c_is up same.
+  rests-owes s read b stay is = does-owes k w x n Front bytes was (λ given. given.opened n bytes was) (node_rests env q [] (goes_on env (work_of (on_segment b s).1 stay))) (λ given after warm late st st_is c_is up same.
       let row = here-row env.epoch q b stay is in
       let at = is-here k w x given n env.epoch b row in
       let turn = goes_on env (work_of (on_segment b s).1 stay) in
@@ -257,6 +257,11 @@ module _ (k : Setting) (w : Whole) (x : Conn) (n epoch : ℕ) (env : NodeEnv) (o
         leads = λ d near. leads st s read at.0 b at.1 stay is.stays talk word late_word warm_word stays few up d
             (subst (λ (r : Result Said SegFault). NearForward t (suc d) n epoch r t.post) read (near-is t (suc d) near)).2;
       }))
+
+  heard-owes : (s : Said) → decoded segment x.c ToCluster ≡ Ok s → (b : ControlBlock) (stay : Stay) → IsHereWith env.epoch q b stay
+      → Forwards (node_turns env q [] (goes_on env (work_of (on_segment b s).1 stay)))
+  heard-owes s read b stay is = turns-owes k w x n Front bytes was env q [] (goes_on env (work_of (on_segment b s).1 stay)) b (here-row env.epoch q b stay is)
+      (rests-owes s read b stay is)
 
   pub forwarded-owes : Forwards (node_forwarded env q (decoded segment x.c ToCluster))
   forwarded-owes = by-read (decoded segment x.c ToCluster) refl where

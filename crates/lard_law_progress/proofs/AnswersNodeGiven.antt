@@ -39,16 +39,16 @@ pub record NodeGiven (k : Setting) (w : Whole) (x : Conn) : Type 0 where
   pub news : (n e : ℕ) (parts : EndpointParts) (bytes : List ℕ) → SpellsMessage x.c e (body.Offer parts) bytes → Was x Front (Node n) bytes → offer_answer e (x.part.nodes n).row ≡ New
       → (row : FrontRow) × (x.part.front.row ≡ Some row) × (row.stage ≡ stage.Offering n (record { 0 = e }))
       × (is_this_epoch e (x.part.nodes n).beside.refused ≡ false)
-  -- INTERIM: no node refuses a connection, so none that was refused is offered again
-  pub unrefused : (n e count : ℕ) → seat_of x.part ≡ Refused n e count → ⊥
-  -- a node to which a connection is offered had none of it before
-  pub fresh : (n e count : ℕ) → seat_of x.part ≡ Offered n e count → (x.part.nodes n).row ≡ None
+  -- a node to which a connection is offered did not decide about it before, and one that took it did not refuse it
+  pub fresh : (n e count : ℕ) → seat_of x.part ≡ Offered n e count → ((x.part.nodes n).row ≡ None) × ((x.part.nodes n).beside.refused ≡ None)
+  pub once : (n : ℕ) (row : BackRow) → (x.part.nodes n).row ≡ Some row → (x.part.nodes n).beside.refused ≡ None
   -- no more requests were read than there are
   pub few : (told : Bool) (n e : ℕ) (b : ControlBlock) (s : Staying) → seat_of x.part ≡ Here told n e b s → read_in s ≤ w.requests
   -- an endpoint talks with this client, and what is forwarded to it are the client's segments
   pub talks : (st : Station) (n e : ℕ) (b : ControlBlock) → x.part.station ≡ Some st → HasIt x n e b → IsTalking st b
   pub words : (st : Station) (n e : ℕ) (b : ControlBlock) (segment bytes : List ℕ) (s : Said) → x.part.station ≡ Some st → HasIt x n e b → SpellsMessage x.c e (body.Forward segment) bytes → Was x Front (Node n) bytes
       → decoded segment x.c ToCluster ≡ Ok s → IsForwarded st b s
-  -- a node that decided about it is there, and so is one to which it is offered
+  -- a node that decided about it is there, and so is one to which it is offered, or that refused it
   pub there : (n : ℕ) (row : BackRow) → (x.part.nodes n).row ≡ Some row → is_no_node k.nodes n ≡ false
   pub placed : (n e count : ℕ) → seat_of x.part ≡ Offered n e count → is_no_node k.nodes n ≡ false
+  pub declined : (n e count : ℕ) → seat_of x.part ≡ Refused n e count → is_no_node k.nodes n ≡ false

@@ -1,7 +1,8 @@
 -- What a node sends as a job is done: for another node the content, of which nothing comes; for a request of its own nothing, where no unit
--- goes.
+-- goes. So it is where the node leaves.
 use Rattle.std.proofs.Common.{◌≡◌, ◌<◌, ◌≤◌, ℕ, List, [], ◌∷◌, ◌++◌, length, map, Option, Some, None, Result, Ok, Err, refl, sym, ap, ◌∙◌, subst, arith}
-use Rattle.lard_law_view.specs.Prelude.{Asked, Body, Conn, ControlBlock, Ending, Letter, Message, Move, MsgFault, Node, NodeEnv, NodePart, Place, Seen, Service, Setting, Station, Stay, Turn, Want, Work, brought_said, came_for, content_bytes, cut_off, decoded_message, goes_on, grown, kind_of, letter, letters_of, node_does, node_read, node_read_by, node_rests, read_progress, serving_settled, spelled_message, spoken, stands, with_node, work_of}
+use Rattle.std.proofs.lemmas.Bool.{cond_both}
+use Rattle.lard_law_view.specs.Prelude.{Asked, BackRow, Body, Conn, ControlBlock, Ending, Letter, Message, Move, MsgFault, Node, NodeEnv, NodePart, NodeTurn, Place, Rec, Seen, Service, Setting, Station, Stay, Turn, Want, Work, brought_said, came_for, content_bytes, cut_off, decoded_message, gives_back, goes_back_by, goes_on, grown, kept_back, kind_of, letter, letters_of, may_give_back, node_does, node_goes_back, node_read, node_read_by, node_rests, read_progress, serving_settled, spelled_message, spoken, stands, turn_back, with_node, with_work, work_of}
 use Rattle.lard_bound.specs.Chains.{aside_chain, chain, of_message}
 use Rattle.lard_bound.specs.Progress.{Every, Lasts, chain_at, chain_on, spot_with}
 use Rattle.lard_bound.specs.Seats.{Staying, stay_of, staying_of}
@@ -9,7 +10,6 @@ use Rattle.lard_bound.specs.Spots.{Spot, spot_of}
 use Rattle.lard_bound.specs.Units.{Whole, batch_left, is_stale, left_with, units}
 use Rattle.lard_law_connections.specs.Places.{Head}
 use Rattle.lard_law_connections.proofs.PlacesHeads.{decoded-head, spelled-some}
-use Rattle.lard_journal.specs.declared.rec.Rec.TheVariants as rec
 use Rattle.lard_message.specs.declared.kind.Kind.TheVariants as kind
 use Rattle.lard_message.specs.declared.message.Body.TheVariants as body
 use Rattle.lard_rules.specs.Node as node
@@ -18,13 +18,13 @@ use Rattle.lard_law_progress.proofs.AnswersMessages.{content_letter, of_conn}
 use Rattle.lard_law_progress.proofs.AnswersNodeDeeds.{is-here, left-same}
 use Rattle.lard_law_progress.proofs.AnswersNodeGiven.{NodeGiven}
 use Rattle.lard_law_progress.proofs.Away.{here-row}
-use Rattle.lard_law_progress.proofs.AnswersNodeStill.{left_here, no-message, still, still-seat}
+use Rattle.lard_law_progress.proofs.AnswersNodeStill.{back-moves, left_here, no-message, still, still-seat}
 use Rattle.lard_law_progress.proofs.AnswersNodeUnits.{Unmoved, unmoved}
 use Rattle.lard_law_progress.proofs.Coming.{came-on, read-comes}
 use Rattle.lard_law_progress.proofs.Stays.{IsAlike, read_of}
 use Rattle.lard_law_progress.proofs.Still.{alike-none}
 use Rattle.lard_rules.specs.declared.places.Ending.TheVariants as ending
-use Rattle.lard_rules.proofs.NodeCases.{IsHereWith, where-here}
+use Rattle.lard_rules.proofs.NodeCases.{IsHereWith, where-here, where-held}
 use Rattle.lard_rules.proofs.Saying.{speaks-done}
 
 -- what is sent as a job is done has no chain, where no unit goes
@@ -62,14 +62,15 @@ module _ (k : Setting) (w : Whole) (x : Conn) where
 
 -- ---- a request of its own
 
-module _ (k : Setting) (w : Whole) (x : Conn) (n r : ℕ) (env : NodeEnv) (path : List ℕ) (heads : List Seen) where
+-- whatever is noted first
+module _ (k : Setting) (w : Whole) (x : Conn) (n : ℕ) (env : NodeEnv) (rs : List Rec) (heads : List Seen) where
   abbrev q : NodePart
   q = x.part.nodes n
 
   abbrev does : node.NodeDeed → Move
-  does deed = told_first (rec.Read n n x.c r path ∷ []) (node_does x n heads deed)
+  does deed = told_first rs (node_does x n heads deed)
 
-  module _ (st : Station) (is : x.part.station ≡ Some st) (b : ControlBlock) (stay : Stay) (has : IsHereWith env.epoch q b stay) where
+  module _ (r : ℕ) (st : Station) (is : x.part.station ≡ Some st) (b : ControlBlock) (stay : Stay) (has : IsHereWith env.epoch q b stay) where
     abbrev w0 : Work
     w0 = came_for read_progress r (work_of b stay)
 
@@ -109,17 +110,44 @@ module _ (k : Setting) (w : Whole) (x : Conn) (n r : ℕ) (env : NodeEnv) (path 
         let messages : (node_rests env q [] turn).1.messages ≡ [] = no-message k.files x.part st at.0 n b env at.1 q [] turn stays (un.idle.asked ∙ h.4) (un.idle.wants ∙ h.3) in
         λ i. map (letter (Node n)) (segments i) ++ map (letter (Node n)) (messages i)
 
-  pub read-works : NodeGiven k w x → NodeGiven k w (grown x (does (node_read env q r))) → Lasts k w x (does (node_read env q r)) → JobOwes k w x (does (node_read env q r))
-  read-works given = where-here env.epoch q (λ o. NodeGiven k w (grown x (does (node_read_by env r q o))) → Lasts k w x (does (node_read_by env r q o))
-      → JobOwes k w x (does (node_read_by env r q o)))
-      (λ after lasts up. tt)
-      (λ b stay has after lasts up.
-      let st = given.held n env.epoch b (here-row env.epoch q b stay has) in
-      let turn = node_rests env q [] (goes_on env (came_for read_progress r (work_of b stay))) in
-      let v = does (node.Does turn) in
-      let later : spot_with k.files (grown x v) x.part.station ≡ spot_with k.files x x.part.station = lasts.steady up in
-      let both : Some (spot_of k.files (with_node x.part n turn.0) st.0) ≡ Some (spot_of k.files x.part st.0) = sym (ap (spot_with k.files (grown x v)) st.1)
-      ∙ later ∙ ap (spot_with k.files x) st.1 in
-      let same : spot_of k.files (with_node x.part n turn.0) st.0 ≡ spot_of k.files x.part st.0 = cc in
-      subst (λ (ls : List Letter). Every (λ a. chain_at k.files (grown x v) a < 1) ls)
-      (sym (read-silent st.0 st.1 b stay has given after (left-same k w x v st.0 st.1 st.1 up) same)) tt)
+  -- what is owed of a deed, where all that is given holds behind it
+  abbrev WorksBy : node.NodeDeed → Type 0
+  WorksBy deed = NodeGiven k w (grown x (does deed)) → Lasts k w x (does deed) → JobOwes k w x (does deed)
+
+  -- where no unit goes, the spot is as it was
+  same-spot : (st : Station) → x.part.station ≡ Some st → (given : NodePart × NodeTurn) → Lasts k w x (does (node.Does given))
+      → units w k.nodes x ≤ units w k.nodes (grown x (does (node.Does given))) → spot_of k.files (with_node x.part n given.0) st ≡ spot_of k.files x.part st
+  same-spot st is given lasts up =
+      let v = does (node.Does given) in
+      let both : Some (spot_of k.files (with_node x.part n given.0) st) ≡ Some (spot_of k.files x.part st) =
+      sym (ap (spot_with k.files (grown x v)) is) ∙ lasts.steady up ∙ ap (spot_with k.files x) is in cc
+
+  module _ (given : NodeGiven k w x) (b : ControlBlock) (stay : Stay) (has : IsHereWith env.epoch q b stay) where
+    abbrev opens : (st : Station) × (x.part.station ≡ Some st)
+    opens = given.held n env.epoch b (here-row env.epoch q b stay has)
+
+    read-rests : (r : ℕ) → WorksBy (with_work env q [] (goes_on env (came_for read_progress r (work_of b stay))))
+    read-rests r after lasts up =
+        let st = opens in
+        let turn = node_rests env q [] (goes_on env (came_for read_progress r (work_of b stay))) in
+        let v = does (node.Does turn) in
+        subst (λ (ls : List Letter). Every (λ a. chain_at k.files (grown x v) a < 1) ls)
+        (sym (read-silent r st.0 st.1 b stay has given after (left-same k w x v st.0 st.1 st.1 up) (same-spot st.0 st.1 turn lasts up))) tt
+
+    -- given back it is somewhere else
+    goes-back : (v : Work) → WorksBy (gives_back env q [] v)
+    goes-back v after lasts up =
+        let st = opens in
+        let home = is-here k w x given n env.epoch b (here-row env.epoch q b stay has) in
+        absurd (back-moves k.files x.part st.0 home.0 n b env home.1 q v (same-spot st.0 st.1 (kept_back env q v, turn_back env [] v) lasts up))
+
+  pub read-works : (r : ℕ) → NodeGiven k w x → WorksBy (node_read env q r)
+  read-works r given = where-here env.epoch q (λ o. WorksBy (node_read_by env r q o)) (λ after lasts up. tt) (λ b stay has.
+      let v = goes_on env (came_for read_progress r (work_of b stay)) in
+      cond_both (may_give_back env v) (gives_back env q [] v) (with_work env q [] v) WorksBy (λ t. goes-back given b stay has v) (λ f. read-rests given b stay has r))
+
+  -- the node leaves
+  pub leaves-works : NodeGiven k w x → ((row : BackRow) → q.row ≡ Some row → row.epoch.0 ≡ env.epoch) → WorksBy (node_goes_back env q)
+  leaves-works given = where-held env.epoch q (λ o. WorksBy (goes_back_by env q o)) (λ after lasts up. tt) (λ b stay has.
+      cond_both (may_give_back env (work_of b stay)) (gives_back env q [] (work_of b stay)) node.Drops WorksBy (λ t. goes-back given b stay has (work_of b stay))
+      (λ f after lasts up. tt))

@@ -1,5 +1,5 @@
 -- Where the spot says that a node has the connection, or decided about its Offer, by what the front end and the node keep.
-use Rattle.std.proofs.Common.{◌≡◌, ◌==◌, ◌⊎◌, ℕ, Bool, true, false, cond, Option, Some, None, inl, inr, refl, sym, ap, ◌∙◌, subst, arith}
+use Rattle.std.proofs.Common.{◌≡◌, ◌==◌, ℕ, Bool, true, false, cond, Option, Some, None, refl, ap, ◌∙◌, arith}
 use Rattle.std.proofs.lemmas.Bool.{cond-true, cond_both, eqb-true}
 use Rattle.std.proofs.lemmas.Bool.Decides.{nat_tests}
 use Rattle.lard_bound.specs.Seats.{Gone, Here, Offered, Refused, Returned, SeatNow, seat_by, seat_decided, seat_in, seat_of, seat_over_by, seat_there, seat_untaken, staying_of}
@@ -8,6 +8,7 @@ use Rattle.lard_handoff_back.specs.declared.row.BackConn.TheVariants as back
 use Rattle.lard_handoff_back.specs.Leaving.{is_this_epoch}
 use Rattle.lard_handoff_front.specs.declared.row.FrontConn.TheVariants as stage
 use Rattle.lard_law_progress.proofs.Away.{IsWith, away-here, seat-with}
+use Rattle.lard_law_progress.proofs.Given.{IsAt}
 
 -- node n has the connection in epoch e, and the front end is with it
 pub record IsHere (p : Part) (told : Bool) (n e : ℕ) (b : ControlBlock) : Type 0 where
@@ -22,20 +23,19 @@ pub record IsDone (p : Part) (n e : ℕ) : Type 0 where
   pub there : (p.nodes n).row ≡ Some row
   pub epoch : row.epoch.0 ≡ e
 
--- it did not
-abbrev pub IsOpen : ℕ → Option BackRow → Type 0
-IsOpen e None = Unit {0}
-IsOpen e (Some row) = ((row.epoch.0 == e) ≡ false) ⊎ (row.stage ≡ back.Out)
-
 -- what a seat tells of the places
 abbrev pub Sits : Part → SeatNow → Type 0
 Sits p (Here told n e b s) = IsHere p told n e b × (s ≡ staying_of (p.nodes n))
 Sits p (Gone told n e) = IsDone p n e
 Sits p (Returned told n e served) = IsDone p n e
-Sits p (Offered n e count) = IsOpen e (p.nodes n).row
+Sits p (Offered n e count) = IsAt p.front n e
+Sits p (Refused n e count) = IsAt p.front n e × (is_this_epoch e (p.nodes n).beside.refused ≡ true)
 Sits p _ = Unit {0}
 
 module _ (p : Part) (front : FrontRow) (row : p.front.row ≡ Some front) (told : Bool) (n e count : ℕ) (with_ : IsWith told n e front.stage) where
+  at : IsAt p.front n e
+  at = record { told = told; row = front; front = row; with_ = with_ }
+
   over-sits : IsDone p n e → (o : Option ℕ) → Sits p (seat_over_by told n e o)
   over-sits done None = done
   over-sits done (Some served) = done
@@ -44,19 +44,19 @@ module _ (p : Part) (front : FrontRow) (row : p.front.row ≡ Some front) (told 
   there-sits r (back.Here b) is stage_is same =
       let e_is : r.epoch.0 ≡ e = eqb-true r.epoch.0 e same in
       (record { front = front; row = row; with_ = with_; there = is ∙ λ i. Some (record { stage = stage_is i; epoch = record { 0 = e_is i } }) }, refl)
-  there-sits r back.Out is stage_is same = subst (IsOpen e) (sym is) (inr stage_is)
+  there-sits r back.Out is stage_is same = at
   there-sits r back.Ended is stage_is same = over-sits (record { row = r; there = is; epoch = eqb-true r.epoch.0 e same }) (p.nodes n).beside.returned
   there-sits r back.Gone is stage_is same = over-sits (record { row = r; there = is; epoch = eqb-true r.epoch.0 e same }) (p.nodes n).beside.returned
 
-  untaken-sits : IsOpen e (p.nodes n).row → Sits p (seat_untaken n e count (p.nodes n))
-  untaken-sits open_ = cond_both (is_this_epoch e (p.nodes n).beside.refused) (Refused n e count) (Offered n e count) (Sits p) (λ t. tt) (λ t. open_)
+  untaken-sits : Sits p (seat_untaken n e count (p.nodes n))
+  untaken-sits = cond_both (is_this_epoch e (p.nodes n).beside.refused) (Refused n e count) (Offered n e count) (Sits p) (λ t. (at, t)) (λ t. at)
 
   decided-sits : (o : Option BackRow) → (p.nodes n).row ≡ o → Sits p (seat_decided told n e count (p.nodes n) o)
-  decided-sits None is = untaken-sits (subst (IsOpen e) (sym is) tt)
+  decided-sits None is = untaken-sits
   decided-sits (Some r) is = go (r.epoch.0 == e) refl where
     go : (b : Bool) → (r.epoch.0 == e) ≡ b → Sits p (cond b (seat_there told n e count (p.nodes n) r.stage) (seat_untaken n e count (p.nodes n)))
     go true same = there-sits r r.stage is refl same
-    go false other = untaken-sits (subst (IsOpen e) (sym is) (inl other))
+    go false other = untaken-sits
 
 pub seat-sits : (p : Part) → Sits p (seat_of p)
 unfolding seat_of

@@ -3,10 +3,10 @@
 use Rattle.std.proofs.Common.{◌≡◌, ◌<◌, ◌≤◌, ◌+◌, ℕ, Bool, true, List, [], ◌++◌, length, is_some, Option, Some, None, ⊎_elim, refl, sym, ap, ◌∙◌, arith}
 use Rattle.std.specs.List.{find}
 use Rattle.std.proofs.lemmas.List.{append-nil}
-use Rattle.lard_law_view.specs.Prelude.{Asked, ClientBlock, ControlBlock, Ending, FilesAt, Final, Kept, NodeEnv, NodePart, Part, Place, Station, Stay, Want, Work, asked_kept, asked_sent, came_for, come_progress, ended_sent, front_rest, goes_on, is_under, kept_after, node_rests, serving_settled, speaks, tagged, wants_kept, wants_sent, with_node, without, work_of}
+use Rattle.lard_law_view.specs.Prelude.{Asked, ClientBlock, ControlBlock, Ending, FilesAt, Final, Kept, NodeEnv, NodePart, Part, Place, Station, Stay, Want, Work, asked_kept, asked_sent, came_for, come_progress, ended_sent, front_rest, goes_on, is_under, kept_after, kept_back, node_rests, serving_settled, speaks, tagged, wants_kept, wants_sent, with_node, without, work_of}
 use Rattle.lard_base.specs.declared.place.TimerKind.TheVariants as kind
 use Rattle.lard_bound.specs.Seats.{Here, seat_of, seat_over_by, stay_of, staying_of}
-use Rattle.lard_bound.specs.Spots.{AtNode, Awaits, EndpointSymbols, Post, Spot, awaits_of, ends_of, post_of, spot_of}
+use Rattle.lard_bound.specs.Spots.{AtNode, Awaits, EndpointSymbols, GaveBack, Post, Spot, awaits_of, ends_of, post_of, spot_of}
 use Rattle.lard_law_progress.proofs.AnswersNodeAsks.{Asks, goes-asks}
 use Rattle.lard_law_progress.proofs.AnswersNodeSeats.{IsHere, here-seat}
 use Rattle.lard_law_progress.proofs.Away.{away-here, away-over, by-ending, seat-put}
@@ -97,6 +97,16 @@ module _ (files : FilesAt) (p : Part) (st : Station) (told : Bool) (n : ℕ) (b 
         let c : wants_sent env w.wants ≡ [] = ap (wants_sent env) wants in
         let e : ended_sent env w.service.over (serving_settled env.serve w.service).0 ≡ [] = ap (ended_sent env w.service.over) s.ends_here in
         (λ i. ((before ++ a i) ++ c i) ++ e i) ∙ append-nil ((before ++ []) ++ []) ∙ append-nil (before ++ []) ∙ append-nil before
+
+  -- where it is given back, it is somewhere else
+  pub back-moves : (pp : NodePart) (w : Work) → spot_of files (with_node p n (kept_back env pp w)) st ≡ spot_of files p st → ⊥
+  back-moves pp w same =
+      let after = kept_back env pp w in
+      let was : post_of files x (seat_of p) ≡ AtNode told n env.epoch (ends_of x b) (awaits_of files (staying_of q)) = ap (post_of files x) (here-seat p told n env.epoch b h) in
+      let now : post_of files x (seat_of (with_node p n after)) ≡ GaveBack told n env.epoch =
+      ap (post_of files x) (seat-put p n env.epoch told h.front after h.row h.with_ ∙ away-over told n env.epoch (front_rest p.front.rest).count after refl) in
+      let bad : GaveBack told n env.epoch ≡ AtNode told n env.epoch (ends_of x b) (awaits_of files (staying_of q)) =
+      sym now ∙ sym (post-is files (with_node p n after) st) ∙ ap (λ (s : Spot). s.post) same ∙ post-is files p st ∙ was in cc
 
   -- ---- what comes for a request
 

@@ -1,14 +1,14 @@
 -- A node's turn behind which no unit went and the spot is as it was: no request got on, the cluster's side is as it was, and the window
 -- is as old as before. So the stay went on by nothing.
 use Rattle.std.proofs.lemmas.Bool.{cases_lt}
-use Rattle.std.proofs.Common.{◌≡◌, ◌<◌, ◌≤◌, ◌⊎◌, ◌+◌, ◌*◌, ◌==◌, ℕ, Bool, true, false, cond, List, is_some, Option, ⊎_elim, refl, sym, ap, ◌∙◌, arith}
+use Rattle.std.proofs.Common.{◌≡◌, ◌<◌, ◌≤◌, ◌⊎◌, ◌+◌, ◌*◌, ◌==◌, ◌&&◌, ℕ, Bool, true, false, cond, List, is_some, Option, ⊎_elim, refl, sym, ap, ◌∙◌, arith}
 use Rattle.lard_law_view.specs.Prelude.{BackRow, ClientBlock, ControlBlock, FilesAt, NodeEnv, NodePart, Part, Place, Station, Work, front_rest, goes_on, kept_after, node_rests, with_node}
 use Rattle.lard_bound.specs.Seats.{Here, SeatNow, Staying, seat_of, staying_of, tells_end}
 use Rattle.lard_bound.specs.Spots.{EndpointSymbols}
-use Rattle.lard_bound.specs.Units.{Whole, client_left, heard_left, is_stale, left_with, one_if_not, requests_left, seat_left, tellers}
+use Rattle.lard_bound.specs.Units.{Whole, client_left, heard_left, is_stale, left_with, may_return_by, nodes_left, one_if_not, requests_left, seat_left, token_of}
 use Rattle.lard_law_progress.proofs.AnswersNodeSeats.{IsHere, here-seat}
 use Rattle.lard_law_progress.proofs.AnswersNodeStill.{Still, left_here}
-use Rattle.lard_law_progress.proofs.Away.{away-here, not-less, not-same, seat-put, stay-less, stay-same, tellers-same, tells}
+use Rattle.lard_law_progress.proofs.Away.{away-here, not-less, not-same, owed-same, seat-put, stay-less, stay-same, tells}
 use Rattle.lard_law_progress.proofs.Ends.{IsSaid, speaks-said}
 use Rattle.lard_law_progress.proofs.Stays.{Cheaper, Finishes, Idle, cost, goes-onward, read_of}
 use Rattle.lard_law_progress.proofs.Turns.{Falls, cost_in, read_in}
@@ -50,15 +50,17 @@ module _ (k : Whole) (K : ℕ) (files : FilesAt) (p : Part) (st : Station) (told
   abbrev left_by : SeatNow → ℕ → ℕ
   left_by z t = client_left k x + heard_left k x z + (seat_left k x z + t) + requests_left k z
 
-  was : left_with k K p st ≡ left_by (Here told n env.epoch b s) (tellers p.nodes K)
-  was = ap (λ (z : SeatNow). left_by z (tellers p.nodes K)) (here-seat p told n env.epoch b h ∙ ap (Here told n env.epoch b) (sym s_is))
+  was : left_with k K p st ≡ left_by (Here told n env.epoch b s) (nodes_left k p.nodes K)
+  was = ap (λ (z : SeatNow). left_by z (nodes_left k p.nodes K)) (here-seat p told n env.epoch b h ∙ ap (Here told n env.epoch b) (sym s_is))
 
-  now : left_with k K p' st ≡ left_by (Here told n env.epoch d (staying_of after)) (tellers p.nodes K)
+  now : left_with k K p' st ≡ left_by (Here told n env.epoch d (staying_of after)) (nodes_left k p.nodes K)
   now =
       let seat : seat_of p' ≡ Here told n env.epoch d (staying_of after) = seat-put p n env.epoch told h.front after h.row h.with_ ∙ away-here told n env.epoch (front_rest p.front.rest).count after d refl in
       let quiet : tells after ≡ tells (p.nodes n) = sym (ap (λ (o : Option BackRow). cond (is_some (tells_end o)) 1 0) h.there) in
-      let same : tellers p'.nodes K ≡ tellers p.nodes K = tellers-same p.nodes n after quiet K in
-      ap (λ (z : SeatNow). left_by z (tellers p'.nodes K)) seat ∙ ap (left_by (Here told n env.epoch d (staying_of after))) same
+      let token : token_of k.leaving n after ≡ token_of k.leaving n (p.nodes n) =
+      sym (ap (λ (o : Option BackRow). cond {A = ℕ} (k.leaving n && may_return_by o (p.nodes n).beside.refused) 9 0) h.there) in
+      let same : nodes_left k p'.nodes K ≡ nodes_left k p.nodes K = owed-same k p.nodes n after quiet token K in
+      ap (λ (z : SeatNow). left_by z (nodes_left k p'.nodes K)) seat ∙ ap (left_by (Here told n env.epoch d (staying_of after))) same
 
   here-part : IsStill → (node_rests env pp before w).0 ≡ after
   here-part still = ap (kept_after env pp w) still.ends_here

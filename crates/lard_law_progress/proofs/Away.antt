@@ -1,11 +1,11 @@
 -- A connection whose stay goes on, or ends, at the node that has it: nothing that is left to do on it comes back.
-use Rattle.std.proofs.Common.{◌≡◌, ◌⊎◌, ◌<◌, ◌≤◌, ◌+◌, ◌-◌, ◌*◌, ◌==◌, ℕ, zero, suc, Bool, true, false, cond, List, length, is_some, Option, Some, None, ⊎_elim, refl, sym, ap, ◌∙◌, subst, arith}
-use Rattle.std.proofs.lemmas.Bool.{cond_both, cond-true, eqb-true}
+use Rattle.std.proofs.Common.{◌≡◌, ◌⊎◌, ◌<◌, ◌≤◌, ◌+◌, ◌-◌, ◌*◌, ◌==◌, ◌&&◌, ℕ, zero, suc, Bool, true, false, cond, List, [], length, is_some, Option, Some, None, ⊎_elim, refl, sym, ap, ◌∙◌, subst, arith}
+use Rattle.std.proofs.lemmas.Bool.{cond_both, cond-true, eq-eqb, eqb-true}
 use Rattle.std.proofs.lemmas.Bool.Decides.{nat_tests}
-use Rattle.lard_law_view.specs.Prelude.{BackRow, ClientBlock, ControlBlock, Ending, FilesAt, Final, FrontConn, FrontRow, Kept, NodeEnv, NodePart, Part, Phase, Place, ServeEnv, Service, Station, Stay, Work, asked_kept, awaited, front_rest, kept_after, named_paths, node_put_back, node_rests, one_if, serving_settled, speaks, symbols, wants_kept, with_node}
-use Rattle.lard_bound.specs.Seats.{Gone, Here, SeatNow, Staying, seat_away, seat_by, seat_decided, seat_in, seat_of, seat_over, seat_over_by, seat_untaken, staying_of, tells_end}
+use Rattle.lard_law_view.specs.Prelude.{BackRow, ClientBlock, ControlBlock, Ending, Entry, FilesAt, Final, FrontConn, FrontRow, Kept, NodeEnv, NodePart, Part, Phase, Place, ServeEnv, Service, Station, Stay, Work, asked_kept, awaited, front_rest, kept_after, kept_back, named_paths, node_put_back, node_rests, one_if, serving_settled, speaks, symbols, wants_kept, with_node}
+use Rattle.lard_bound.specs.Seats.{Gone, Here, Returned, SeatNow, Staying, seat_away, seat_by, seat_decided, seat_in, seat_of, seat_over, seat_over_by, seat_untaken, staying_of, telling_by, tells_end, tells_over}
 use Rattle.lard_bound.specs.Spots.{AtNode, number_awaited, ends_of, post_of, spot_of}
-use Rattle.lard_bound.specs.Units.{Whole, block_left, client_left, ended_left, heard_left, is_stale, left_with, one_if_not, requests_left, seat_left, stay_left, symbols_taken, tellers}
+use Rattle.lard_bound.specs.Units.{Whole, block_left, client_left, ended_left, heard_left, is_stale, left_with, may_return, may_return_by, nodes_left, one_if_not, requests_left, seat_left, stay_left, sum_of, symbols_taken, tells_of, token_of}
 use Rattle.lard_client.specs.declared.phase.Phase.TheVariants as phase
 use Rattle.lard_handoff_back.specs.declared.row.BackConn.TheVariants as back
 use Rattle.lard_handoff_back.specs.Table.{Beside}
@@ -58,36 +58,106 @@ pub here-row : (e : ℕ) (q : NodePart) (b : ControlBlock) (s : Stay) → IsHere
     → q.row ≡ Some (record { stage = back.Here b; epoch = record { 0 = e } })
 here-row e q b s at = at.found ∙ λ i. Some (record { stage = at.staged i; epoch = record { 0 = at.epoch_is i } })
 
--- ---- who tells an end
+-- ---- what a node owes: its end, or what it may send back
 
 abbrev pub tells : NodePart → ℕ
-tells q = cond (is_some (tells_end q.row)) 1 0
+tells q = tells_of 0 q
 
--- one more at the most, and where the node told as much before, none
-pub tellers-put : (nodes : ℕ → NodePart) (n : ℕ) (q : NodePart) (m : ℕ) → tellers (node_put_back nodes n q) m ≤ tellers nodes m + tells q
-tellers-put nodes n q zero = omega arith
-tellers-put nodes n q (suc m) = go (suc m == n) refl (tellers-put nodes n q m) where
-  below : (nodes : ℕ → NodePart) (n : ℕ) (q : NodePart) (m k : ℕ) → k < n → k ≤ m → tellers (node_put_back nodes n q) k ≡ tellers nodes k
-  below nodes n q m zero low in_ = refl
-  below nodes n q m (suc k) low in_ =
-      let other : (suc k == n) ≡ false = apart (suc k) n low in
-      let rest : tellers (node_put_back nodes n q) k ≡ tellers nodes k = below nodes n q m k (omega arith) (omega arith) in
-      let one : tells (cond (suc k == n) q (nodes (suc k))) ≡ tells (nodes (suc k)) = ap (λ (b : Bool). tells (cond b q (nodes (suc k)))) other in
+-- a sum over all nodes, where one of them keeps something else
+module _ (f : ℕ → NodePart → ℕ) (nodes : ℕ → NodePart) (n : ℕ) (q : NodePart) where
+  sum-below : (m : ℕ) → m < n → sum_of f (node_put_back nodes n q) m ≡ sum_of f nodes m
+  sum-below zero low = refl
+  sum-below (suc m) low =
+      let other : (suc m == n) ≡ false = apart (suc m) n low in
+      let rest : sum_of f (node_put_back nodes n q) m ≡ sum_of f nodes m = sum-below m (omega (arith, low)) in
+      let one : f (suc m) (cond (suc m == n) q (nodes (suc m))) ≡ f (suc m) (nodes (suc m)) = ap (λ (b : Bool). f (suc m) (cond b q (nodes (suc m)))) other in
       omega (arith, rest, one)
     where
       apart : (a b : ℕ) → a < b → (a == b) ≡ false
       apart a b l = grind (arith, nat_tests, l)
 
-  go : (b : Bool) → (suc m == n) ≡ b → tellers (node_put_back nodes n q) m ≤ tellers nodes m + tells q → tells (cond b q (nodes (suc m))) + tellers (node_put_back nodes n q) m ≤ (tells (nodes (suc m)) + tellers nodes m) + tells q
-  go true e h = let same : tellers (node_put_back nodes n q) m ≡ tellers nodes m = below nodes n q m m (let is : suc m ≡ n = eqb-true (suc m) n e in omega arith) (omega arith) in omega (arith, same)
-  go false e h = omega (arith, h)
+  at-one : (m : ℕ) → suc m ≡ n → (f (suc m) (cond (suc m == n) q (nodes (suc m))) ≡ f n q) × (f (suc m) (nodes (suc m)) ≡ f n (nodes n))
+  at-one m is = ((λ i. f (is i) (cond (eq-eqb (suc m) n is i) q (nodes (suc m)))), (λ i. f (is i) (nodes (is i))))
 
-pub tellers-same : (nodes : ℕ → NodePart) (n : ℕ) (q : NodePart) → tells q ≡ tells (nodes n) → (m : ℕ) → tellers (node_put_back nodes n q) m ≡ tellers nodes m
-tellers-same nodes n q e zero = refl
-tellers-same nodes n q e (suc m) = go (suc m == n) refl (tellers-same nodes n q e m) where
-  go : (b : Bool) → (suc m == n) ≡ b → tellers (node_put_back nodes n q) m ≡ tellers nodes m → tells (cond b q (nodes (suc m))) + tellers (node_put_back nodes n q) m ≡ tells (nodes (suc m)) + tellers nodes m
-  go true is h = let same : tells (nodes n) ≡ tells (nodes (suc m)) = ap (λ z. tells (nodes z)) (sym (eqb-true (suc m) n is)) in omega (arith, h, e, same)
-  go false is h = omega (arith, h)
+  -- as much more as it has more
+  sum-moves : 1 ≤ n → (m : ℕ) → n ≤ m → sum_of f (node_put_back nodes n q) m + f n (nodes n) ≡ sum_of f nodes m + f n q
+  sum-moves some zero in_ = absurd (omega (arith, some, in_))
+  sum-moves some (suc m) in_ = go (suc m == n) refl (λ i. sum-moves some m i) where
+    go : (b : Bool) → (suc m == n) ≡ b → (n ≤ m → sum_of f (node_put_back nodes n q) m + f n (nodes n) ≡ sum_of f nodes m + f n q)
+        → f (suc m) (cond (suc m == n) q (nodes (suc m))) + sum_of f (node_put_back nodes n q) m + f n (nodes n) ≡ f (suc m) (nodes (suc m)) + sum_of f nodes m + f n q
+    go true is later =
+        let same : suc m ≡ n = eqb-true (suc m) n is in
+        let both = at-one m same in
+        let rest = sum-below m (omega (arith, same)) in
+        let a = both.0 in let b = both.1 in omega (arith, a, b, rest)
+    go false is later =
+        let one : f (suc m) (cond (suc m == n) q (nodes (suc m))) ≡ f (suc m) (nodes (suc m)) = ap (λ (b : Bool). f (suc m) (cond b q (nodes (suc m)))) is in
+        let low : n < suc m = differ (suc m) n is in_ in
+        let rest = later (omega (arith, low)) in omega (arith, one, rest)
+      where
+        differ : (a b : ℕ) → (a == b) ≡ false → b ≤ a → b < a
+        differ a b e l = grind (arith, nat_tests, e, l)
+
+  -- that much more at the most
+  sum-put : (m : ℕ) → sum_of f (node_put_back nodes n q) m ≤ sum_of f nodes m + f n q
+  sum-put zero = omega arith
+  sum-put (suc m) = go (suc m == n) refl (sum-put m) where
+    go : (b : Bool) → (suc m == n) ≡ b → sum_of f (node_put_back nodes n q) m ≤ sum_of f nodes m + f n q
+        → f (suc m) (cond (suc m == n) q (nodes (suc m))) + sum_of f (node_put_back nodes n q) m ≤ (f (suc m) (nodes (suc m)) + sum_of f nodes m) + f n q
+    go true is h =
+        let same : suc m ≡ n = eqb-true (suc m) n is in
+        let both = at-one m same in let rest = sum-below m (omega (arith, same)) in
+        let a = both.0 in omega (arith, a, rest)
+    go false is h =
+        let one : f (suc m) (cond (suc m == n) q (nodes (suc m))) ≡ f (suc m) (nodes (suc m)) = ap (λ (b : Bool). f (suc m) (cond b q (nodes (suc m)))) is in
+        omega (arith, one, h)
+
+  -- and none, where it has as much as before
+  sum-same : f n q ≡ f n (nodes n) → (m : ℕ) → sum_of f (node_put_back nodes n q) m ≡ sum_of f nodes m
+  sum-same e zero = refl
+  sum-same e (suc m) = go (suc m == n) refl (sum-same e m) where
+    go : (b : Bool) → (suc m == n) ≡ b → sum_of f (node_put_back nodes n q) m ≡ sum_of f nodes m
+        → f (suc m) (cond (suc m == n) q (nodes (suc m))) + sum_of f (node_put_back nodes n q) m ≡ f (suc m) (nodes (suc m)) + sum_of f nodes m
+    go true is h = let both = at-one m (eqb-true (suc m) n is) in let a = both.0 in let b = both.1 in omega (arith, a, b, e, h)
+    go false is h =
+        let one : f (suc m) (cond (suc m == n) q (nodes (suc m))) ≡ f (suc m) (nodes (suc m)) = ap (λ (b : Bool). f (suc m) (cond b q (nodes (suc m)))) is in
+        omega (arith, one, h)
+
+-- what is left at node n
+abbrev pub owes : Whole → ℕ → NodePart → ℕ
+owes k n q = tells q + token_of k.leaving n q
+
+module _ (k : Whole) (nodes : ℕ → NodePart) (n : ℕ) (q : NodePart) where
+  pub owed-moves : 1 ≤ n → (m : ℕ) → n ≤ m → nodes_left k (node_put_back nodes n q) m + owes k n (nodes n) ≡ nodes_left k nodes m + owes k n q
+  owed-moves some m in_ =
+      let a = sum-moves tells_of nodes n q some m in_ in let b = sum-moves (token_of k.leaving) nodes n q some m in_ in omega (arith, a, b)
+
+  pub owed-put : (m : ℕ) → nodes_left k (node_put_back nodes n q) m ≤ nodes_left k nodes m + owes k n q
+  owed-put m = let a = sum-put tells_of nodes n q m in let b = sum-put (token_of k.leaving) nodes n q m in omega (arith, a, b)
+
+  pub owed-same : tells q ≡ tells (nodes n) → token_of k.leaving n q ≡ token_of k.leaving n (nodes n) → (m : ℕ) → nodes_left k (node_put_back nodes n q) m ≡ nodes_left k nodes m
+  owed-same told token m = let a = sum-same tells_of nodes n q told m in let b = sum-same (token_of k.leaving) nodes n q token m in omega (arith, a, b)
+
+pub tells-one : (q : NodePart) → tells q ≤ 1
+tells-one q = cond_both (is_some (tells_end q.row)) 1 0 (λ z. z ≤ 1) (λ t. omega arith) (λ t. omega arith)
+
+-- one whose stay is over sends it back no more, and one that has it may
+pub token-none : (l : ℕ → Bool) (n : ℕ) (q : NodePart) → may_return q ≡ false → token_of l n q ≡ 0
+token-none l n q is = by (l n) where
+  by : (t : Bool) → ◌≡◌ {A = ℕ} (cond (t && may_return q) 9 0) 0
+  by true = ap (λ (b : Bool). cond {A = ℕ} b 9 0) is
+  by false = refl
+
+pub token-stays : (l : ℕ → Bool) (n : ℕ) (q : NodePart) → l n ≡ false → token_of l n q ≡ 0
+token-stays l n q is = ap (λ (b : Bool). cond {A = ℕ} (b && may_return q) 9 0) is
+
+pub token-nine : (l : ℕ → Bool) (n : ℕ) (q : NodePart) → l n ≡ true → may_return q ≡ true → token_of l n q ≡ 9
+token-nine l n q leaves may = λ i. cond {A = ℕ} (leaves i && may i) 9 0
+
+pub over-owes : (k : Whole) (n e : ℕ) (q : NodePart) → q.row ≡ Some (record { stage = back.Ended; epoch = record { 0 = e } }) → owes k n q ≤ 1
+over-owes k n e q is =
+    let one = tells-one q in
+    let none = token-none k.leaving n q (ap (λ (o : Option BackRow). may_return_by o q.beside.refused) is) in omega (arith, one, none)
 
 -- ---- the end of a turn
 
@@ -107,15 +177,15 @@ not-same true false on e = absurd (let bad : false ≡ true = on refl in cc)
 not-same false true on e = absurd (omega arith)
 not-same false false on e = refl
 
-pub tells-one : (q : NodePart) → tells q ≤ 1
-tells-one q = cond_both (is_some (tells_end q.row)) 1 0 (λ z. z ≤ 1) (λ t. omega arith) (λ t. omega arith)
-
 -- the requests of a stay, by how many were read and what they cost
 pub stay-less : (k : Whole) (r r' c c' : ℕ) → r ≤ r' → r' ≤ k.requests → c' + 4 * r ≤ c + 4 * r' → 4 * (k.requests - r') + c' ≤ 4 * (k.requests - r) + c
 stay-less k r r' c c' up in_ cheap = omega arith
 
 pub stay-same : (k : Whole) (r r' c c' : ℕ) → r ≤ r' → r' ≤ k.requests → c' + 4 * r < c + 4 * r' → 4 * (k.requests - r') + c' < 4 * (k.requests - r) + c
 stay-same k r r' c c' up in_ cheap = omega arith
+
+pub fewer-left : (n c m : ℕ) → c ≤ m → 4 * (n - m) ≤ 4 * (n - c)
+fewer-left n c m e = omega arith
 
 module _ (k : Whole) (K : ℕ) (files : FilesAt) (p : Part) (st : Station) (n : ℕ) (told : Bool) (row : FrontRow) (b : ControlBlock) (env : NodeEnv)
     (front : p.front.row ≡ Some row) (with_ : IsWith told n env.epoch row.stage) (here : (p.nodes n).row ≡ Some (record { stage = back.Here b; epoch = record { 0 = env.epoch } }))
@@ -138,8 +208,8 @@ module _ (k : Whole) (K : ℕ) (files : FilesAt) (p : Part) (st : Station) (n : 
   abbrev pub IsLess : Part → Type 0
   IsLess p' = Lasting k K files p st p' st
 
-  was : left_with k K p st ≡ left_by (Here told n env.epoch b s) (tellers p.nodes K)
-  was = ap (λ (z : SeatNow). left_by z (tellers p.nodes K)) seat-is
+  was : left_with k K p st ≡ left_by (Here told n env.epoch b s) (nodes_left k p.nodes K)
+  was = ap (λ (z : SeatNow). left_by z (nodes_left k p.nodes K)) seat-is
 
   ended-less : (ph : Phase) → ended_left k x ph ≤ block_left k x b
   ended-less phase.Open = let l : b.send.una ≤ symbols_taken x = una in omega arith
@@ -152,9 +222,9 @@ module _ (k : Whole) (K : ℕ) (files : FilesAt) (p : Part) (st : Station) (n : 
   ends-less q is none =
       let p' = with_node p n q in
       let seat : seat_of p' ≡ Gone told n env.epoch = seat-put p n env.epoch told row q front with_ ∙ away-ended told n env.epoch at q is none in
-      let now : left_with k K p' st ≡ left_by (Gone told n env.epoch) (tellers p'.nodes K) = ap (λ (z : SeatNow). left_by z (tellers p'.nodes K)) seat in
-      let more = tellers-put p.nodes n q K in
-      let one = tells-one q in
+      let now : left_with k K p' st ≡ left_by (Gone told n env.epoch) (nodes_left k p'.nodes K) = ap (λ (z : SeatNow). left_by z (nodes_left k p'.nodes K)) seat in
+      let more = owed-put k p.nodes n q K in
+      let one = over-owes k n env.epoch q is in
       let heard = ended-less x.phase in
       let w = was in
       record {
@@ -192,13 +262,16 @@ module _ (k : Whole) (K : ℕ) (files : FilesAt) (p : Part) (st : Station) (n : 
         let now : post_of files x (Here told n env.epoch d (staying_of q)) ≡ post_of files x (Here told n env.epoch b s) =
         λ i. AtNode told n env.epoch (ends i) (record { asks = h.asks i; named = length (named_paths files (h.batch i)); kept = h.kept_is i; fetches = h.fetches_are i }) in
         let post : post_of files x (seat_of (with_node p n q)) ≡ post_of files x (seat_of p) = ap (post_of files x) seat ∙ now ∙ sym (ap (post_of files x) seat-is) in
-        let tell : (z : ℕ) → tells_end (node_put_back p.nodes n q z).row ≡ tells_end (p.nodes z).row = told-same q refl in
+        let tell : (z : ℕ) → tells_over (node_put_back p.nodes n q z) ≡ tells_over (p.nodes z) = told-same q refl in
         λ i. record { phase = x.phase; isn = x.send.iss; iss = st.iss; una = x.send.una; last = symbols x.send; post = post i; telling = λ z. tell z i }
       where
-        told-same : (q : NodePart) → tells_end q.row ≡ None → (z : ℕ) → tells_end (node_put_back p.nodes n q z).row ≡ tells_end (p.nodes z).row
+        told-same : (q : NodePart) → tells_over q ≡ None → (z : ℕ) → tells_over (node_put_back p.nodes n q z) ≡ tells_over (p.nodes z)
         told-same q e z = go (z == n) refl where
-          go : (b : Bool) → (z == n) ≡ b → tells_end (cond b q (p.nodes z)).row ≡ tells_end (p.nodes z).row
-          go true is = e ∙ sym (ap (λ (y : ℕ). tells_end (p.nodes y).row) (eqb-true z n is) ∙ ap tells_end here)
+          none : tells_over (p.nodes n) ≡ None
+          none = ap (λ (o : Option BackRow). telling_by (tells_end o) (p.nodes n).beside.returned) here
+
+          go : (b : Bool) → (z == n) ≡ b → tells_over (cond b q (p.nodes z)) ≡ tells_over (p.nodes z)
+          go true is = e ∙ sym (ap (λ (y : ℕ). tells_over (p.nodes y)) (eqb-true z n is) ∙ none)
           go false is = refl
 
     stays-less : (beside : Beside) (d : ControlBlock) → IsSaid w.service.block d → w.service.over ≡ None → Fits d w → IsLess (with_node p n (q_of beside d w.service.count))
@@ -208,8 +281,10 @@ module _ (k : Whole) (K : ℕ) (files : FilesAt) (p : Part) (st : Station) (n : 
         let s' = staying_of q in
         let seat : seat_of p' ≡ Here told n env.epoch d s' = seat-put p n env.epoch told row q front with_ ∙ away-here told n env.epoch at q d refl in
         let quiet : tells q ≡ tells (p.nodes n) = sym (ap (λ (o : Option BackRow). cond (is_some (tells_end o)) 1 0) here) in
-        let same : tellers p'.nodes K ≡ tellers p.nodes K = tellers-same p.nodes n q quiet K in
-        let now : left_with k K p' st ≡ left_by (Here told n env.epoch d s') (tellers p'.nodes K) = ap (λ (z : SeatNow). left_by z (tellers p'.nodes K)) seat in
+        let token : token_of k.leaving n q ≡ token_of k.leaving n (p.nodes n) =
+        sym (ap (λ (o : Option BackRow). cond {A = ℕ} (k.leaving n && may_return_by o (p.nodes n).beside.refused) 9 0) here) in
+        let same : nodes_left k p'.nodes K ≡ nodes_left k p.nodes K = owed-same k p.nodes n q quiet token K in
+        let now : left_with k K p' st ≡ left_by (Here told n env.epoch d s') (nodes_left k p'.nodes K) = ap (λ (z : SeatNow). left_by z (nodes_left k p'.nodes K)) seat in
         let w0 = was in
         let u1 : d.send.una ≡ w.service.block.send.una = said.una in
         let u2 : b.send.una ≤ w.service.block.send.una = works.una in
@@ -260,3 +335,29 @@ module _ (k : Whole) (K : ℕ) (files : FilesAt) (p : Part) (st : Station) (n : 
         }))) (sym fs) (stays-less pp.beside d (speaks-said env.serve.c w.service.block) none (fit d w.service.count refl))))
         (λ last fit. ends-less (kept_after env pp w (ending.Over last)) refl unreturned)
         fits
+
+    -- a node that leaves gives it back, once nothing that was read is left, and its side is open
+    pub back-less : (pp : NodePart) → 1 ≤ n → n ≤ K → k.leaving n ≡ true → w.batch ≡ [] → w.service.block.send.finished ≡ false
+        → IsLess (with_node p n (kept_back env pp w))
+    back-less pp some within leaves none open_ =
+        let q = kept_back env pp w in
+        let p' = with_node p n q in
+        let seat : seat_of p' ≡ Returned told n env.epoch w.service.count = seat-put p n env.epoch told row q front with_ ∙ away-over told n env.epoch at q refl in
+        let now : left_with k K p' st ≡ left_by (Returned told n env.epoch w.service.count) (nodes_left k p'.nodes K) = ap (λ (z : SeatNow). left_by z (nodes_left k p'.nodes K)) seat in
+        let moves = owed-moves k p.nodes n q some K within in
+        let had : token_of k.leaving n (p.nodes n) ≡ 9 = token-nine k.leaving n (p.nodes n) leaves (ap (λ (o : Option BackRow). may_return_by o (p.nodes n).beside.refused) here) in
+        let has = over-owes k n env.epoch q refl in
+        let u : b.send.una ≤ symbols_taken x = una in
+        let f : one_if_not b.send.finished ≡ 1 = ap one_if_not (open-before b.send.finished w.service.block.send.finished works.shut open_) in
+        let l : length w.batch ≡ 0 = ap (λ (es : List Entry). length es) none in
+        let m : read_in s ≤ read_of w = works.more in
+        let r = fewer-left k.requests (read_in s) w.service.count (omega (arith, l, m)) in
+        let w0 = was in
+        record {
+          less = omega (arith, now, w0, moves, had, has, u, f, r);
+          steady = λ up. absurd (omega (arith, up, now, w0, moves, had, has, u, f, r));
+        }
+      where
+        open-before : (a c : Bool) → (a ≡ true → c ≡ true) → c ≡ false → a ≡ false
+        open-before true c on e = absurd (let bad : true ≡ false = sym (on refl) ∙ e in cc)
+        open-before false c on e = refl

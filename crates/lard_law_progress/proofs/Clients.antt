@@ -2,9 +2,9 @@
 use Rattle.std.proofs.Common.{Bool, ap, arith, cond, false, inl, inr, refl, subst, sym, true, ℕ, ◌+◌, ◌==◌, ◌∙◌, ◌≡◌, ◌≤◌, ◌⊎◌}
 use Rattle.std.proofs.lemmas.Bool.Decides.{nat_tests}
 use Rattle.lard_law_view.specs.Prelude.{ClientBlock, FilesAt, Part, Phase, Said, Sending, Station, after_next, after_resend, client_after_emit, client_after_timer, client_arrived, client_speaks, client_told, one_if, symbols, with_station}
-use Rattle.lard_bound.specs.Seats.{Gone, Held, Here, Offered, Over, Refused, Returned, SeatNow, Unborn, Waiting, seat_of, tells_end}
+use Rattle.lard_bound.specs.Seats.{Gone, Held, Here, Offered, Over, Refused, Returned, SeatNow, Unborn, Waiting, seat_of, tells_over}
 use Rattle.lard_bound.specs.Spots.{AtFront, AtNode, Ended, number_awaited, awaits_of, post_of, spot_of}
-use Rattle.lard_bound.specs.Units.{Whole, client_left, ended_left, hand_off, heard_left, left_with, one_if_not, requests_left, seat_left, spoken_left, symbols_taken, tellers}
+use Rattle.lard_bound.specs.Units.{Whole, client_left, ended_left, hand_off, heard_left, left_with, nodes_left, one_if_not, requests_left, seat_left, spoken_left, symbols_taken}
 use Rattle.lard_client.specs.declared.phase.Phase.TheVariants.{Open, Aborted, Reset}
 use Rattle.lard_law_progress.proofs.Away.{not-less, not-same}
 use Rattle.lard_law_progress.proofs.Ends.{IsAhead, ahead-self, ahead-then, kept-ahead}
@@ -225,7 +225,7 @@ module _ (k : Whole) (K : ℕ) (files : FilesAt) (p : Part) (st : Station) (y : 
   seat-same _ = refl
 
   abbrev left_by : ClientBlock → SeatNow → ℕ
-  left_by u z = client_left k u + heard_left k u z + (seat_left k u z + tellers p.nodes K) + requests_left k z
+  left_by u z = client_left k u + heard_left k u z + (seat_left k u z + nodes_left k p.nodes K) + requests_left k z
 
   sits : seat_of p' ≡ seat_of p
   unfolding seat_of
@@ -282,4 +282,4 @@ module _ (k : Whole) (K : ℕ) (files : FilesAt) (p : Part) (st : Station) (y : 
       let ph = phase-same x.phase y.phase turned.takes.phase s1 in
       let ns = numbers x.phase refl (let same : spoken_left k y y.phase ≡ spoken_left k y x.phase = ap (spoken_left k y) ph in omega (arith, s1, same)) in
       let post : post_of files y (seat_of p') ≡ post_of files x (seat_of p) = ap (post_of files y) sits ∙ post-same (seat_of p) ph h1 in
-      λ i. record { phase = ph i; isn = turned.iss i; iss = st.iss; una = ns.0 i; last = 1 + turned.ahead.total i + one_if (ns.1 i); post = post i; telling = λ z. tells_end (p.nodes z).row }
+      λ i. record { phase = ph i; isn = turned.iss i; iss = st.iss; una = ns.0 i; last = 1 + turned.ahead.total i + one_if (ns.1 i); post = post i; telling = λ z. tells_over (p.nodes z) }

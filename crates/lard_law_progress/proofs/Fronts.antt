@@ -1,9 +1,9 @@
 -- A connection that the front end has, and what becomes of it in a step: nothing that is left to do on it comes back.
 use Rattle.std.proofs.Common.{◌≡◌, ◌⊎◌, ◌<◌, ◌≤◌, ◌+◌, ◌-◌, ◌*◌, ℕ, zero, suc, Bool, true, false, ⊎_elim, refl, sym, ap, ◌∙◌, arith}
 use Rattle.lard_law_view.specs.Prelude.{ClientBlock, ControlBlock, FilesAt, Final, FrontPart, Part, Phase, Station, one_if, symbols, with_front}
-use Rattle.lard_bound.specs.Seats.{Held, Offered, Over, SeatNow, Waiting, seat_of, tells_end}
+use Rattle.lard_bound.specs.Seats.{Held, Offered, Over, SeatNow, Waiting, seat_of, tells_over}
 use Rattle.lard_bound.specs.Spots.{AtFront, number_awaited, ends_of, post_of, spot_of}
-use Rattle.lard_bound.specs.Units.{Whole, block_left, client_left, ended_left, hand_off, heard_left, is_stale, left_with, one_if_not, requests_left, seat_left, symbols_taken, tellers}
+use Rattle.lard_bound.specs.Units.{Whole, block_left, client_left, ended_left, hand_off, heard_left, is_stale, left_with, nodes_left, one_if_not, requests_left, seat_left, symbols_taken}
 use Rattle.lard_client.specs.declared.phase.Phase.TheVariants as phase
 use Rattle.lard_law_progress.proofs.Away.{not-less, not-same}
 use Rattle.lard_law_progress.proofs.Less.{Lasting}
@@ -43,7 +43,7 @@ module _ (k : Whole) (K : ℕ) (files : FilesAt) (p : Part) (st : Station) (b : 
   x = st.client
 
   abbrev left_by : SeatNow → ℕ
-  left_by z = client_left k x + heard_left k x z + (seat_left k x z + tellers p.nodes K) + requests_left k z
+  left_by z = client_left k x + heard_left k x z + (seat_left k x z + nodes_left k p.nodes K) + requests_left k z
 
   abbrev pub IsLess : Part → Type 0
   IsLess p' = Lasting k K files p st p' st
@@ -98,7 +98,7 @@ module _ (k : Whole) (K : ℕ) (files : FilesAt) (p : Part) (st : Station) (b : 
   same-spot f d more is u fin total waits =
       let ends : ends_of x d ≡ ends_of x b = λ i. record { una = u i; symbols = 1 + total i + one_if (fin i); awaited = waits i } in
       let post : post_of files x (seat_of (with_front p f)) ≡ post_of files x (seat_of p) = ap (post_of files x) is ∙ ap AtFront ends ∙ sym (ap (post_of files x) seat) in
-      λ i. record { phase = x.phase; isn = x.send.iss; iss = st.iss; una = x.send.una; last = symbols x.send; post = post i; telling = λ z. tells_end (p.nodes z).row }
+      λ i. record { phase = x.phase; isn = x.send.iss; iss = st.iss; una = x.send.una; last = symbols x.send; post = post i; telling = λ z. tells_over (p.nodes z) }
 
   -- it stays
   pub held-less : (f : FrontPart) (d : ControlBlock) (more : ℕ) → seat_of (with_front p f) ≡ Held d more → Keeps x b d count more → FitsAt k x d more → IsLess (with_front p f)

@@ -8,7 +8,7 @@ use Rattle.lard_bound.specs.Units.{Whole, symbols_taken}
 use Rattle.lard_client.specs.declared.phase.Phase.TheVariants as phase
 use Rattle.lard_handoff_back.specs.declared.row.BackConn.TheVariants as back
 use Rattle.lard_handoff_back.specs.declared.table.Adopt.TheVariants.{New}
-use Rattle.lard_handoff_back.specs.Leaving.{is_this_epoch}
+use Rattle.lard_handoff_back.specs.Leaving.{is_new_epoch, is_this_epoch}
 use Rattle.lard_handoff_front.specs.declared.row.FrontConn.TheVariants as stage
 use Rattle.lard_history.proofs.Each.{Each}
 use Rattle.lard_journal.specs.declared.rec.Rec.TheVariants as rec
@@ -70,6 +70,16 @@ pub record IsNewOffer (p : Part) (x : ClientBlock) (n e : ℕ) (parts : Endpoint
   pub served : parts.served ≡ (front_rest p.front.rest).count
   pub una : symbols_taken x ≤ parts.una
 
+-- An Offer that is new to a node that leaves: the front end awaits its answer, and the node is there and did not decide about the connection.
+pub record IsUnseen (nodes : ℕ) (p : Part) (n e : ℕ) : Type 0 where
+  pub row : FrontRow
+  pub front : p.front.row ≡ Some row
+  pub with_ : row.stage ≡ stage.Offering n (record { 0 = e })
+  pub none : (p.nodes n).row ≡ None
+  pub open_ : (p.nodes n).beside.refused ≡ None
+  pub some : 1 ≤ n
+  pub within : n ≤ nodes
+
 -- where it is when it comes back from node n, in epoch e, with so many responses
 abbrev pub IsFrom : Option EndpointParts → ℕ → ℕ → ℕ → SeatNow → Type 0
 IsFrom given n e served (Refused m d count) = (given ≡ None) × (m ≡ n) × (d ≡ e) × (count ≤ served)
@@ -91,8 +101,9 @@ pub record IsGone (z : SeatNow) : Type 0 where
 
 -- ---- all of it
 
--- Of a connection whose client opened, in a cluster of so many nodes.
-pub record Known (nodes : ℕ) (w : Whole) (x : Conn) (st : Station) : Type 0 where
+-- Of a connection whose client opened, by how many nodes there are, and which leave.
+pub record Known (k : Setting) (w : Whole) (x : Conn) (st : Station) : Type 0 where
+  pub leaves : (n : ℕ) → w.leaving n ≡ k.leaving n
   pub said : st.client.send.una ≤ w.written + 2
   pub heard : symbols_taken st.client ≤ w.answers + 2
   pub seat : SeatKnown w st.client (seat_of x.part)
@@ -100,16 +111,18 @@ pub record Known (nodes : ℕ) (w : Whole) (x : Conn) (st : Station) : Type 0 wh
   pub homes : (n e : ℕ) (b : ControlBlock) → (x.part.nodes n).row ≡ Some (record { stage = back.Here b; epoch = record { 0 = e } }) → IsAt x.part.front n e
   pub unreturned : (n e : ℕ) (b : ControlBlock) → (x.part.nodes n).row ≡ Some (record { stage = back.Here b; epoch = record { 0 = e } })
       → (x.part.nodes n).beside.returned ≡ None
-  pub there : (n : ℕ) (row : BackRow) → (x.part.nodes n).row ≡ Some row → (1 ≤ n) × (n ≤ nodes)
+  pub there : (n : ℕ) (row : BackRow) → (x.part.nodes n).row ≡ Some row → (1 ≤ n) × (n ≤ k.nodes)
   pub offers : (n e : ℕ) (parts : EndpointParts) (bytes : List ℕ) → SpellsMessage x.c e (body.Offer parts) bytes → Was x Front (Node n) bytes → offer_answer e (x.part.nodes n).row ≡ New
       → IsNewOffer x.part st.client n e parts
+  pub unseen : (n e : ℕ) (parts : EndpointParts) (bytes : List ℕ) → SpellsMessage x.c e (body.Offer parts) bytes → Was x Front (Node n) bytes → k.leaving n ≡ true
+      → is_new_epoch e (x.part.nodes n).row (x.part.nodes n).beside ≡ true → IsUnseen k.nodes x.part n e
   pub ends : (n e : ℕ) (why : Reason) (snd rcv count : ℕ) (bytes : List ℕ) → SpellsMessage x.c e (body.Ended why snd rcv count) bytes → Was x (Node n) Front bytes
       → (row : FrontRow) → x.part.front.row ≡ Some row → is_away e row.stage ≡ true → IsGone (seat_of x.part)
   pub returns : (n e : ℕ) (given : Option EndpointParts) (bytes : List ℕ) → SpellsMessage x.c e (back_body given) bytes → Was x (Node n) Front bytes
       → (row : FrontRow) (parts : EndpointParts) → IsBack x.part.front n e given row parts → ComesBack x.part st.client n e given row parts
 
 abbrev pub Given : Setting → (ℕ → Whole) → Conn → Type 0
-Given k all x = (st : Station) → x.part.station ≡ Some st → Known k.nodes (all x.c) x st
+Given k all x = (st : Station) → x.part.station ≡ Some st → Known k (all x.c) x st
 
 -- ---- what a move owes
 

@@ -1,15 +1,13 @@
--- A connection begins, waits, goes to a node, and comes back: in each of these steps a unit goes.
-use Rattle.std.proofs.Common.{◌≡◌, ◌<◌, ◌≤◌, ◌+◌, ◌-◌, ◌*◌, ◌==◌, ℕ, zero, suc, Bool, true, false, cond, List, [], Option, Some, None, refl, sym, ap, ◌∙◌, subst, arith}
-use Rattle.std.proofs.lemmas.Bool.{eqb-true}
-use Rattle.std.proofs.lemmas.Bool.Decides.{nat_tests}
+-- A connection begins, waits, goes to a node, is refused there, and comes back: in each of these steps a unit goes.
+use Rattle.std.proofs.Common.{◌≡◌, ◌≤◌, ◌+◌, ◌-◌, ◌*◌, ◌==◌, ℕ, zero, suc, Bool, true, false, List, [], Option, Some, None, refl, sym, ap, ◌∙◌, subst, arith}
 use Rattle.lard_law_view.specs.Prelude.{ClientBlock, ControlBlock, Ending, EndpointParts, FilesAt, Final, FrontPart, FrontRow, Kept, NodeEnv, NodePart, Part, Phase, Place, Station, Work, asked_kept, front_rest, kept_after, node_put_back, node_rests, speaks, symbols, wants_kept, with_front, with_node}
-use Rattle.lard_bound.specs.Seats.{Gone, Held, Here, Offered, Over, Refused, Returned, SeatNow, Staying, Unborn, Waiting, seat_of, staying_of, tells_end}
+use Rattle.lard_bound.specs.Seats.{Gone, Held, Here, Offered, Over, Refused, Returned, SeatNow, Staying, Unborn, Waiting, seat_of, staying_of, tells_over}
 use Rattle.lard_bound.specs.Spots.{post_of, spot_of}
-use Rattle.lard_bound.specs.Units.{Whole, block_left, ended_left, hand_off, heard_left, is_stale, left_with, one_if_not, requests_left, seat_left, symbols_taken, tellers, untaken}
+use Rattle.lard_bound.specs.Units.{Whole, block_left, ended_left, hand_off, heard_left, is_stale, left_with, nodes_left, one_if_not, requests_left, seat_left, symbols_taken, token_of, untaken}
 use Rattle.lard_client.specs.declared.phase.Phase.TheVariants as phase
 use Rattle.lard_handoff_back.specs.declared.row.BackConn.TheVariants as back
 use Rattle.lard_handoff_back.specs.Table.{Beside}
-use Rattle.lard_law_progress.proofs.Away.{IsWith, away-ended, away-here, by-ending, not-less, seat-put, stay-less, tellers-put, tellers-same, tells, tells-one}
+use Rattle.lard_law_progress.proofs.Away.{IsWith, away-ended, away-here, by-ending, fewer-left, not-less, over-owes, owed-moves, owed-put, owed-same, seat-put, stay-less, tells, token-stays}
 use Rattle.lard_law_progress.proofs.Ends.{IsSaid, speaks-said}
 use Rattle.lard_law_progress.proofs.Given.{IsFrom}
 use Rattle.lard_law_progress.proofs.Less.{Lasting, falls, left_by}
@@ -57,13 +55,13 @@ module _ (k : Whole) (K : ℕ) (files : FilesAt) (p : Part) (st : Station) where
   pub waits-on : (f : FrontPart) (b d : ControlBlock) (count : ℕ) → seat_of p ≡ Waiting b count → seat_of (with_front p f) ≡ Waiting d count → b.send.una ≤ d.send.una → (b.send.finished ≡ true → d.send.finished ≡ true) → To (with_front p f)
   unfolding spot_of
   waits-on f b d count was now una shut =
-      let w : left_with k K p st ≡ left_by k st (Waiting b count) (tellers p.nodes K) = ap (λ (s : SeatNow). left_by k st s (tellers p.nodes K)) was in
-      let n : left_with k K (with_front p f) st ≡ left_by k st (Waiting d count) (tellers p.nodes K) = ap (λ (s : SeatNow). left_by k st s (tellers p.nodes K)) now in
+      let w : left_with k K p st ≡ left_by k st (Waiting b count) (nodes_left k p.nodes K) = ap (λ (s : SeatNow). left_by k st s (nodes_left k p.nodes K)) was in
+      let n : left_with k K (with_front p f) st ≡ left_by k st (Waiting d count) (nodes_left k p.nodes K) = ap (λ (s : SeatNow). left_by k st s (nodes_left k p.nodes K)) now in
       let s = not-less b.send.finished d.send.finished shut in record {
         less = omega (arith, w, n, una, s);
         steady = λ up.
             let post : post_of files x (seat_of (with_front p f)) ≡ post_of files x (seat_of p) = ap (post_of files x) now ∙ sym (ap (post_of files x) was) in
-            λ i. record { phase = x.phase; isn = x.send.iss; iss = st.iss; una = x.send.una; last = symbols x.send; post = post i; telling = λ z. tells_end (p.nodes z).row };
+            λ i. record { phase = x.phase; isn = x.send.iss; iss = st.iss; una = x.send.una; last = symbols x.send; post = post i; telling = λ z. tells_over (p.nodes z) };
       }
 
   pub waits-over : (f : FrontPart) (b : ControlBlock) (count : ℕ) (last : Final) → seat_of p ≡ Waiting b count → seat_of (with_front p f) ≡ Over last → b.send.una ≤ symbols_taken x → To (with_front p f)
@@ -78,7 +76,7 @@ module _ (k : Whole) (K : ℕ) (files : FilesAt) (p : Part) (st : Station) where
   -- ---- a node takes it
 
   module _ (n : ℕ) (row : FrontRow) (env : NodeEnv) (front : p.front.row ≡ Some row) (with_ : IsWith false n env.epoch row.stage)
-      (offered : seat_of p ≡ Offered n env.epoch (front_rest p.front.rest).count) (quiet : tells (p.nodes n) ≡ 0) where
+      (offered : seat_of p ≡ Offered n env.epoch (front_rest p.front.rest).count) (quiet : tells (p.nodes n) ≡ 0) (stays : k.leaving n ≡ false) where
     abbrev count : ℕ
     count = (front_rest p.front.rest).count
 
@@ -87,7 +85,7 @@ module _ (k : Whole) (K : ℕ) (files : FilesAt) (p : Part) (st : Station) where
     over-there q is none =
         let seat : seat_of (with_node p n q) ≡ Gone false n env.epoch = seat-put p n env.epoch false row q front with_
         ∙ away-ended false n env.epoch count q is none in
-        let e = ended-untaken x.phase in let more = tellers-put p.nodes n q K in let one = tells-one q in
+        let e = ended-untaken x.phase in let more = owed-put k p.nodes n q K in let one = over-owes k n env.epoch q is in
         falls k K files p (with_node p n q) st (Offered n env.epoch count) (Gone false n env.epoch) offered seat (omega (arith, e, more, one))
 
     -- what the endpoint that it adopted, and its work behind that, are
@@ -113,7 +111,8 @@ module _ (k : Whole) (K : ℕ) (files : FilesAt) (p : Part) (st : Station) where
           beside = beside;
         } in
         let seat : seat_of (with_node p n q) ≡ Here false n env.epoch d (staying_of q) = seat-put p n env.epoch false row q front with_ ∙ away-here false n env.epoch count q d refl in
-        let same : tellers (node_put_back p.nodes n q) K ≡ tellers p.nodes K = tellers-same p.nodes n q (sym quiet) K in
+        let token : token_of k.leaving n q ≡ token_of k.leaving n (p.nodes n) = token-stays k.leaving n q stays ∙ sym (token-stays k.leaving n (p.nodes n) stays) in
+        let same : nodes_left k (node_put_back p.nodes n q) K ≡ nodes_left k p.nodes K = owed-same k p.nodes n q (sym quiet) token K in
         let u : d.send.una ≡ w.service.block.send.una = said.una in
         let t : symbols_taken x ≤ w.service.block.send.una = a.una in
         let s = stale-one x d in let g = flag-one d.send.finished in
@@ -163,9 +162,6 @@ module _ (k : Whole) (K : ℕ) (files : FilesAt) (p : Part) (st : Station) where
   seven zero = omega arith
   seven (suc n) = omega arith
 
-  fewer-left : (n c m : ℕ) → c ≤ m → 4 * (n - m) ≤ 4 * (n - c)
-  fewer-left n c m e = omega arith
-
   module _ (given : Option EndpointParts) (n e served : ℕ) (from : IsFrom given n e served (seat_of p)) where
     -- so much is left that it may be placed anew
     back-left : (z : SeatNow) → IsFrom given n e served z → (t : ℕ)
@@ -174,9 +170,9 @@ module _ (k : Whole) (K : ℕ) (files : FilesAt) (p : Part) (st : Station) where
     back-left (Returned told m d count) h t = let c = fewer-left k.requests count served h.3 in omega (arith, c)
     back-left _ h t = absurd h
 
-    abbrev left : untaken k x + 11 + tellers p.nodes K + 4 * (k.requests - served) ≤ heard_left k x (seat_of p) +
-        (seat_left k x (seat_of p) + tellers p.nodes K) + requests_left k (seat_of p)
-    left = back-left (seat_of p) from (tellers p.nodes K)
+    abbrev left : untaken k x + 11 + nodes_left k p.nodes K + 4 * (k.requests - served) ≤ heard_left k x (seat_of p) +
+        (seat_left k x (seat_of p) + nodes_left k p.nodes K) + requests_left k (seat_of p)
+    left = back-left (seat_of p) from (nodes_left k p.nodes K)
 
     pub back-held : (f : FrontPart) (d : ControlBlock) (more : ℕ) → seat_of (with_front p f) ≡ Held d more → symbols_taken x ≤ d.send.una → served ≤ more
         → To (with_front p f)
@@ -202,30 +198,16 @@ module _ (k : Whole) (K : ℕ) (files : FilesAt) (p : Part) (st : Station) where
 
   -- ---- the node hears that its end is known
 
-  pub acknowledged-less : (n : ℕ) (q : NodePart) (z : SeatNow) → seat_of p ≡ z → seat_of (with_node p n q) ≡ z → 1 ≤ n → n ≤ K → tells (p.nodes n) ≡ 1 → tells q ≡ 0 → To (with_node p n q)
-  acknowledged-less n q z was now some within told quiet =
-      let f = fewer p.nodes n q some told quiet K within in
-      falls k K files p (with_node p n q) st z z was now (omega (arith, f))
-    where
-      above : (nodes : ℕ → NodePart) (n : ℕ) (q : NodePart) (m : ℕ) → m < n → tellers (node_put_back nodes n q) m ≡ tellers nodes m
-      above nodes n q zero low = refl
-      above nodes n q (suc m) low =
-          let other : (suc m == n) ≡ false = apart (suc m) n low in
-          let rest = above nodes n q m (omega (arith, low)) in
-          let one : tells (cond (suc m == n) q (nodes (suc m))) ≡ tells (nodes (suc m)) = ap (λ (b : Bool). tells (cond b q (nodes (suc m)))) other in
-          omega (arith, rest, one)
-        where
-          apart : (a b : ℕ) → a < b → (a == b) ≡ false
-          apart a b l = grind (arith, nat_tests, l)
+  pub acknowledged-less : (n : ℕ) (q : NodePart) (z : SeatNow) → seat_of p ≡ z → seat_of (with_node p n q) ≡ z → 1 ≤ n → n ≤ K → tells (p.nodes n) ≡ 1 → tells q ≡ 0
+      → token_of k.leaving n q ≡ token_of k.leaving n (p.nodes n) → To (with_node p n q)
+  acknowledged-less n q z was now some within told quiet token =
+      let f = owed-moves k p.nodes n q some K within in
+      falls k K files p (with_node p n q) st z z was now (omega (arith, f, told, quiet, token))
 
-      fewer : (nodes : ℕ → NodePart) (n : ℕ) (q : NodePart) → 1 ≤ n → tells (nodes n) ≡ 1 → tells q ≡ 0 → (m : ℕ) → n ≤ m → tellers (node_put_back nodes n q) m + 1 ≤ tellers nodes m
-      fewer nodes n q some told quiet zero in_ = absurd (omega (arith, some, in_))
-      fewer nodes n q some told quiet (suc m) in_ = go (suc m == n) refl (λ i. fewer nodes n q some told quiet m i) where
-        go : (b : Bool) → (suc m == n) ≡ b → (n ≤ m → tellers (node_put_back nodes n q) m + 1 ≤ tellers nodes m) → tells (cond b q (nodes (suc m))) + tellers (node_put_back nodes n q) m + 1 ≤ tells (nodes (suc m)) + tellers nodes m
-        go true is later =
-            let n' : suc m ≡ n = eqb-true (suc m) n is in
-            let one : tells (nodes (suc m)) ≡ 1 = ap (λ z. tells (nodes z)) n' ∙ told in
-            let same = above nodes n q m (omega (arith, n')) in omega (arith, one, same, quiet)
-        go false is later = let d : n < suc m = differ (suc m) n is in_ in let h = later (omega (arith, d)) in omega (arith, h) where
-          differ : (a b : ℕ) → (a == b) ≡ false → b ≤ a → b < a
-          differ a b e l = grind (arith, nat_tests, e, l)
+  -- ---- a node that leaves refuses it
+
+  pub refused-less : (n e count : ℕ) (q : NodePart) → seat_of p ≡ Offered n e count → seat_of (with_node p n q) ≡ Refused n e count → 1 ≤ n → n ≤ K
+      → tells q ≡ tells (p.nodes n) → token_of k.leaving n (p.nodes n) ≡ 9 → token_of k.leaving n q ≡ 0 → To (with_node p n q)
+  refused-less n e count q was now some within told nine none =
+      let f = owed-moves k p.nodes n q some K within in
+      falls k K files p (with_node p n q) st (Offered n e count) (Refused n e count) was now (omega (arith, f, told, nine, none))

@@ -1,18 +1,19 @@
 -- Every step of which a settle's rounds are made: no unit of a connection comes back, and where none goes, its spot is as it was.
-use Rattle.std.proofs.Common.{◌≡◌, ℕ, List, Option, Some, None, Result, Ok, Err, refl, sym, ap, ◌∙◌, subst, arith}
+use Rattle.std.proofs.Common.{◌≡◌, ℕ, List, Option, Some, None, Result, Ok, Err, refl, sym, ap, ◌∙◌, subst, arith, true}
 use Rattle.lard_law_view.specs.Prelude.{Client, ClientBlock, ClientFires, ClientGets, ClientReceives, ClientRules, Conn, EndedBy, Front, FrontEnv, FrontGets, FrontHears, FrontRules, IsConnSound, IsNodeEnv, Letter, MayRestOn, Message, Move, MsgFault, Node, NodeEnv, NodeRules, Rec, ReturnedBy, Rules, Said, Seen, SegFault, Setting, SpellsMessage, Station, ToClient, ToCluster, Turn, client_does, client_gets, client_timer, decoded, decoded_message, event_seen, front_does, front_rule, grown, node_does, node_rule, nothing_said, offer_answer, packet_seen, stands}
 use Rattle.lard_law_view.proofs.EachClient.{ClientComes, client_goes, each-client}
 use Rattle.lard_bound.specs.Progress.{IfCame, IsWarm, IsWarmBy, IsWarmMessage, IsWarmSegment, Lasts, came_in, spot_with}
 use Rattle.lard_bound.specs.Units.{Whole, left_to_client, units}
 use Rattle.lard_rules.specs.Front as front
 use Rattle.lard_handoff_back.specs.declared.table.Adopt.TheVariants.{New}
+use Rattle.lard_handoff_back.specs.Leaving.{is_new_epoch}
 use Rattle.lard_base.specs.declared.event.Event.TheVariants as event
 use Rattle.lard_message.specs.declared.message.Body.TheVariants as body
 use Rattle.lard_rules.specs.Node as node
 use Rattle.lard_law_view.proofs.EachFront.{FrontComes, admission, each-front}
 use Rattle.lard_law_view.proofs.EachNode.{NodeComes, aside_said, aside_seen, each-node, job_notes, told_first}
 use Rattle.lard_law_progress.proofs.Clients.{Turned, client-less, client-steady, heard-turned, timer-turned}
-use Rattle.lard_law_progress.proofs.Given.{Given, IsNewOffer, Owed}
+use Rattle.lard_law_progress.proofs.Given.{Given, IsNewOffer, IsUnseen, Owed}
 use Rattle.lard_law_progress.proofs.Less.{idles, lasts}
 use Rattle.lard_law_progress.proofs.NodeMessages.{IsExpected, rule-lasts}
 use Rattle.lard_law_progress.proofs.Placing.{IsAwaited, front-lasts}
@@ -126,12 +127,16 @@ module _ (k : Setting) (all : ℕ → Whole) where
   -- ---- nodes
 
   -- what comes to a node is expected there
-  expected : (x : Conn) (n epoch : ℕ) (env : NodeEnv) (heads : List Seen) (g : node.NodeGets) → IsNodeEnv k x.c n epoch env → NodeComes x n epoch heads g
-      → MayRestOn (Given k all) x → IfCame (IsWarm x) (came_in heads)
-      → (st : Station) → x.part.station ≡ Some st → IsExpected (all x.c) k.nodes k.files x.part st n env g
+  expected : (x : Conn) (n epoch : ℕ) (env : NodeEnv) (heads : List Seen) (g : node.NodeGets) → (is : IsNodeEnv k x.c n epoch env) → NodeComes x n epoch heads g
+      → (m : MayRestOn (Given k all) x) → IfCame (IsWarm x) (came_in heads)
+      → (st : Station) → (at : x.part.station ≡ Some st) → IsExpected (all x.c) k.nodes k.files x.part st n env (is.leaves ∙ sym ((m.given st at).leaves n)) g
   expected x n epoch env heads (node.Offered parts) is comes m came st at =
-      subst (λ e. offer_answer e (x.part.nodes n).row ≡ New → IsNewOffer x.part st.client n e parts) (sym is.epoch_is)
-      ((m.given st at).offers n epoch parts comes.bytes comes.spells comes.was)
+      let known = m.given st at in (
+        subst (λ e. offer_answer e (x.part.nodes n).row ≡ New → IsNewOffer x.part st.client n e parts) (sym is.epoch_is)
+            (known.offers n epoch parts comes.bytes comes.spells comes.was),
+        λ leaving. subst (λ e. is_new_epoch e (x.part.nodes n).row (x.part.nodes n).beside ≡ true → IsUnseen k.nodes x.part n e) (sym is.epoch_is)
+            (known.unseen n epoch parts comes.bytes comes.spells comes.was (sym is.leaves ∙ leaving)),
+      )
   expected x n epoch env heads (node.Forwarded given) is comes m came st at =
       subst (IsWarmSegment st.client) (sym comes.read) (warm-forward x st n epoch comes.segment comes.came.bytes m.sound at comes.came.spells
       (came-by x comes.came.seen came))
@@ -142,8 +147,8 @@ module _ (k : Setting) (all : ℕ → Whole) where
     does = λ x n epoch env heads g is in_its comes m after inner came. let d = node_rule env (x.part.nodes n) g in
         node-deed x n (job_notes x.c n g) heads d
         (λ st at. let known = m.given st at in
-        rule-lasts (all x.c) k.nodes k.files x.part st n env known.seat known.heard (known.homes n env.epoch) (known.unreturned n env.epoch)
-        (known.there n) g in_its
+        rule-lasts (all x.c) k.nodes k.files x.part st n env (is.leaves ∙ sym (known.leaves n)) known.seat known.heard (known.homes n env.epoch) (known.unreturned n env.epoch)
+        (known.there n) g in_its.0
         (expected x n epoch env heads g is comes m (came-by x (node-heads x n heads d) came) st at)) after;
     aside = λ x n a may m after inner came. idles k (all x.c) x (stands x (Node n) (aside_seen n a) (aside_said k n x.c a)) refl;
   })

@@ -1,12 +1,12 @@
 -- Every step of which a settle's rounds are made leads further: no unit comes back, and what comes of a packet is shorter and nearer.
 use Rattle.std.proofs.Common.{◌≡◌, ◌<◌, ℕ, List, [], ◌∷◌, Some, refl, sym, ◌∙◌, subst, arith}
-use Rattle.lard_law_view.specs.Prelude.{Client, ClientFires, ClientGets, ClientReceives, ClientRules, Conn, Front, FrontRules, IsNobody, IsUnheard, Letter, MayRestOn, Move, Node, NodeRules, Place, Rules, Seen, Setting, Station, front_does, front_rule, grown, node_read, nothing_said, packet_seen, stands}
+use Rattle.lard_law_view.specs.Prelude.{Client, ClientFires, ClientGets, ClientReceives, ClientRules, Completed, Conn, Content, Forwarded, Front, FrontRules, IsNobody, IsUnheard, Leaves, Letter, MayRestOn, Move, Node, NodeEnv, NodeGets, NodeRules, Place, Rules, Seen, Setting, Station, front_does, front_rule, grown, node_rule, nothing_said, packet_seen, stands}
 use Rattle.lard_law_view.proofs.EachClient.{ClientComes, client_goes, each-client}
 use Rattle.lard_bound.specs.Progress.{Answers, IfCame, IsWarm, Lasts, came_in}
 use Rattle.lard_bound.specs.Units.{Whole, units}
 use Rattle.lard_law_view.proofs.Saying.{NamesAll}
 use Rattle.lard_law_view.proofs.EachFront.{each-front}
-use Rattle.lard_law_view.proofs.EachNode.{Aside, aside_said, aside_seen, each-node, node_goes}
+use Rattle.lard_law_view.proofs.EachNode.{Aside, NodeComes, aside_said, aside_seen, each-node, job_notes, node_goes}
 use Rattle.lard_law_view.proofs.EachNode as each
 use Rattle.lard_law_view.proofs.Guarded.{both, front-both, front-weaker, node-both, node-weaker, weaker}
 use Rattle.lard_law_progress.proofs.Admitting.{admitted-falls}
@@ -17,12 +17,13 @@ use Rattle.lard_law_progress.proofs.AnswersFront.{front-answers, front-ignores}
 use Rattle.lard_law_progress.proofs.AnswersFrontGiven.{FrontGiven}
 use Rattle.lard_law_progress.proofs.AnswersIgnored.{IsUnwanted, client-ignores, node-ignores}
 use Rattle.lard_law_progress.proofs.AnswersNodeGiven.{NodeGiven}
-use Rattle.lard_law_progress.proofs.AnswersNodeJobs.{JobOwes, brings-works, read-works}
+use Rattle.lard_law_progress.proofs.AnswersNodeJobs.{JobOwes, brings-works, leaves-works, read-works}
 use Rattle.lard_law_progress.proofs.AnswersNodeRules.{node-answers}
-use Rattle.lard_law_view.proofs.FirstSeen.{by-front-seen, by-node-seen}
+use Rattle.lard_law_view.proofs.FirstSeen.{by-front-seen}
 use Rattle.lard_law_progress.proofs.Given.{AreInner, Given, Owed}
 use Rattle.lard_law_progress.proofs.Lasting.{rules-last}
 use Rattle.lard_law_view.proofs.Deeds.{front-heads, node-heads, node-place}
+use Rattle.lard_rules.proofs.NodeCases.{IsInItsEpoch}
 
 -- ---- what is given
 
@@ -126,12 +127,25 @@ module _ (k : Setting) (all : ℕ → Whole) where
   aside-alone x n (each.Brings from epoch r path) none given after l = (λ names. names, brings-works k (all x.c) x n from epoch r path)
   aside-alone x n _ none given after l = absurd (begun _ _ none)
 
+  module _ (x : Conn) (n epoch : ℕ) (env : NodeEnv) (heads : List Seen) where
+    -- what is seen first of it
+    sees-first : (h : Seen) → heads ≡ h ∷ [] → (g : NodeGets) → (node_goes x n env heads g).heads ≡ [] → ⊥
+    sees-first h seen g none = begun h [] (sym seen ∙ sym (node-heads x n heads (node_rule env (x.part.nodes n) g)) ∙ none)
+
+    at-node : (g : NodeGets) → NamesAll (node_goes x n env heads g).place → ⊥
+    at-node g names = subst NamesAll (node-place x n heads (node_rule env (x.part.nodes n) g)) names
+
+    node-alone : (g : NodeGets) → IsInItsEpoch env (x.part.nodes n) g → NodeComes x n epoch heads g → Alone x (node_goes x n env heads g)
+    node-alone (Completed r path) at comes none given after l =
+        (at-node (Completed r path), read-works k (all x.c) x n env (job_notes x.c n (Completed r path)) heads r given after l)
+    node-alone Leaves at comes none given after l = (at-node Leaves, leaves-works k (all x.c) x n env [] heads given at.0 after l)
+    node-alone (Forwarded read) at comes none given after l = absurd (sees-first _ comes.came.seen (Forwarded read) none)
+    node-alone (Content from r) at comes none given after l = absurd (sees-first _ comes.came.seen (Content from r) none)
+    node-alone g at comes none given after l = absurd (sees-first _ comes.seen g none)
+
   alone-nodes : NodeRules k Alone
   alone-nodes = each-node k Alone (record {
-    does = λ x n epoch env heads g is in_its. by-node-seen x n epoch heads (λ ss g. Alone x (node_goes x n env ss g))
-        (λ from bytes g seen none. absurd (begun _ _ (sym seen ∙ sym (node-heads x n heads _) ∙ none)))
-        (λ fired none. absurd (begun _ _ (sym (node-heads x n _ _) ∙ none)))
-        (λ r path none given after l. (λ names. subst NamesAll (node-place x n [] (node_read env (x.part.nodes n) r)) names, read-works k (all x.c) x n r env path [] given after l)) g;
+    does = λ x n epoch env heads g is at comes. node-alone x n epoch env heads g at comes;
     aside = λ x n a allowed. aside-alone x n a;
   })
 

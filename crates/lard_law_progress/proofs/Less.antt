@@ -4,7 +4,7 @@ use Rattle.lard_law_view.specs.Prelude.{Conn, FilesAt, Move, Part, Setting, Stat
 use Rattle.lard_bound.specs.Progress.{Lasts, spot_with}
 use Rattle.lard_bound.specs.Seats.{SeatNow, seat_of}
 use Rattle.lard_bound.specs.Spots.{Spot, spot_of}
-use Rattle.lard_bound.specs.Units.{Whole, client_left, heard_left, left_to_client, left_with, requests_left, seat_left, tellers, units}
+use Rattle.lard_bound.specs.Units.{Whole, client_left, heard_left, left_to_client, left_with, nodes_left, requests_left, seat_left, units}
 
 -- No unit comes back, and where none goes, the spot is as it was.
 pub record Lasting (k : Whole) (K : ℕ) (files : FilesAt) (p : Part) (st : Station) (p' : Part) (st' : Station) : Type 0 where
@@ -17,10 +17,10 @@ left_by k st z t = client_left k st.client + heard_left k st.client z + (seat_le
 
 -- it is somewhere else: a unit goes
 pub falls : (k : Whole) (K : ℕ) (files : FilesAt) (p p' : Part) (st : Station) (a z : SeatNow) → seat_of p ≡ a → seat_of p' ≡ z
-    → left_by k st z (tellers p'.nodes K) < left_by k st a (tellers p.nodes K) → Lasting k K files p st p' st
+    → left_by k st z (nodes_left k p'.nodes K) < left_by k st a (nodes_left k p.nodes K) → Lasting k K files p st p' st
 falls k K files p p' st a z is now low =
-    let w : left_with k K p st ≡ left_by k st a (tellers p.nodes K) = ap (λ (s : SeatNow). left_by k st s (tellers p.nodes K)) is in
-    let n : left_with k K p' st ≡ left_by k st z (tellers p'.nodes K) = ap (λ (s : SeatNow). left_by k st s (tellers p'.nodes K)) now in
+    let w : left_with k K p st ≡ left_by k st a (nodes_left k p.nodes K) = ap (λ (s : SeatNow). left_by k st s (nodes_left k p.nodes K)) is in
+    let n : left_with k K p' st ≡ left_by k st z (nodes_left k p'.nodes K) = ap (λ (s : SeatNow). left_by k st s (nodes_left k p'.nodes K)) now in
     record { less = omega (arith, w, n, low); steady = λ up. absurd (omega (arith, up, w, n, low)) }
 
 -- so it is of a move

@@ -1,16 +1,17 @@
 -- How much is left to do at the most, and of all connections together.
-use Rattle.std.proofs.Common.{◌≡◌, ◌<◌, ◌≤◌, ◌+◌, ◌-◌, ◌*◌, ℕ, zero, suc, length, ⊎_elim, sym, subst, arith}
+use Rattle.std.proofs.Common.{◌≡◌, ◌<◌, ◌≤◌, ◌+◌, ◌-◌, ◌*◌, ℕ, zero, suc, length, ⊎_elim, sym, subst, arith, ◌&&◌, Bool, true, false, cond, if◌then◌else◌, is_some, Option, Some, None}
 use Rattle.std.proofs.lemmas.Bool.{cases_lt}
-use Rattle.lard_bound.specs.Seats.{Gone, Held, Here, Offered, Over, Refused, Returned, SeatNow, Staying, Unborn, Waiting, seat_of}
-use Rattle.lard_bound.specs.Units.{Whole, batch_left, ended_left, hand_off, heard_left, left_with, requests_left, seat_left, spoken_left, tellers, units, units_to}
-use Rattle.lard_law_view.specs.Prelude.{ClientBlock, Machine, Part, Phase, Station, conn}
+use Rattle.lard_bound.specs.Seats.{Gone, Held, Here, Offered, Over, Refused, Returned, SeatNow, Staying, Unborn, Waiting, seat_of, telling, tells_end}
+use Rattle.lard_bound.specs.Units.{Whole, batch_left, ended_left, hand_off, heard_left, leavers, left_with, may_return, may_return_by, nodes_left, requests_left, seat_left, spoken_left, sum_of, tellers, tells_of, tokens, units, units_to}
+use Rattle.lard_law_view.specs.Prelude.{BackConn, BackRow, ClientBlock, Epoch, Machine, NodePart, Part, Phase, Station, back_held, conn}
 use Rattle.lard_client.specs.declared.phase.Phase.TheVariants as phase
+use Rattle.lard_handoff_back.specs.declared.row.BackConn.TheVariants as back
 use Rattle.lard_law_progress.proofs.Handing.{flag-one, stale-one}
 use Rattle.lard_law_progress.proofs.Turns.{read_in}
 
 -- ---- one connection
 
--- What is known of a connection by where it is: how many nodes tell an end, that one which was handed off has a request, that one which is
+-- What is known of a connection by where it is: how many nodes that do not leave tell an end, that one which was handed off has a request, that one which is
 -- given back had a response, and what its batch, its Ask and its Fetches are.
 pub record IsModestStay (k : Whole) (s : Staying) : Type 0 where
   pub few : read_in s ≤ k.requests
@@ -72,11 +73,68 @@ module _ (k : Whole) (x : ClientBlock) where
   way-most t (Gone told n e) m = let a = m.0 in let f = flag-one told in omega (arith, a, f)
   way-most t (Over last) m = omega (arith, m)
 
-pub left-most : (k : Whole) (K : ℕ) (p : Part) (st : Station) → IsModest k (tellers p.nodes K) (seat_of p) → left_with k K p st ≤ k.written + k.answers + 14 + 7 * k.requests
+-- ---- the nodes
+
+-- of those that do not leave, how many tell that a stay is over
+abbrev stays_telling : (ℕ → Bool) → ℕ → NodePart → ℕ
+stays_telling l n q = if l n then 0 else tells_of n q
+
+abbrev pub staying_tellers : (ℕ → Bool) → (ℕ → NodePart) → ℕ → ℕ
+staying_tellers l nodes m = sum_of (stays_telling l) nodes m
+
+pub fewer-tellers : (l : ℕ → Bool) (nodes : ℕ → NodePart) (m : ℕ) → staying_tellers l nodes m ≤ tellers nodes m
+fewer-tellers l nodes zero = omega arith
+fewer-tellers l nodes (suc m) = go (l (suc m)) (fewer-tellers l nodes m) where
+  go : (t : Bool) → staying_tellers l nodes m ≤ tellers nodes m → cond t 0 (tells_of (suc m) (nodes (suc m))) + staying_tellers l nodes m ≤ tells_of (suc m) (nodes (suc m)) + tellers nodes m
+  go true h = omega (arith, h)
+  go false h = omega (arith, h)
+
+-- one that tells so sends the connection back no more
+one-most : (q : NodePart) → tells_of 0 q + cond (may_return q) 9 0 ≤ 9
+one-most q = go q.row q.beside.refused where
+  go : (o : Option BackRow) (r : Option Epoch) → cond (is_some (tells_end o)) 1 0 + cond (may_return_by o r) 9 0 ≤ 9
+  go None None = omega arith
+  go None (Some e) = omega arith
+  go (Some row) r = by row.stage where
+    by : (c : BackConn) → cond (is_some (telling c row.epoch.0)) 1 0 + cond (is_some (back_held c)) 9 0 ≤ 9
+    by (back.Here b) = omega arith
+    by back.Out = omega arith
+    by back.Ended = omega arith
+    by back.Gone = omega arith
+
+-- nine for each node that leaves, and those that tell so
+nodes-most : (k : Whole) (nodes : ℕ → NodePart) (m : ℕ) → nodes_left k nodes m ≤ staying_tellers k.leaving nodes m + 9 * leavers k.leaving m
+nodes-most k nodes zero = omega arith
+nodes-most k nodes (suc m) = go (k.leaving (suc m)) (nodes-most k nodes m) where
+  q : NodePart
+  q = nodes (suc m)
+
+  go : (t : Bool) → nodes_left k nodes m ≤ staying_tellers k.leaving nodes m + 9 * leavers k.leaving m
+      → (tells_of 0 q + tellers nodes m) + (cond (t && may_return q) 9 0 + tokens k.leaving nodes m)
+      ≤ (cond t 0 (tells_of 0 q) + staying_tellers k.leaving nodes m) + 9 * (cond t 1 0 + leavers k.leaving m)
+  go true h = let one = one-most (nodes (suc m)) in omega (arith, one, h)
+  go false h = omega (arith, h)
+
+-- fewer tell it
+pub modest-less : (k : Whole) (t u : ℕ) → u ≤ t → (z : SeatNow) → IsModest k t z → IsModest k u z
+modest-less k t u low Unborn m = omega (arith, low, m)
+modest-less k t u low (Held b count) m = omega (arith, low, m)
+modest-less k t u low (Waiting b count) m = let a = m.0 in (omega (arith, low, a), m.1)
+modest-less k t u low (Offered n e count) m = let a = m.0 in (omega (arith, low, a), m.1)
+modest-less k t u low (Refused n e count) m = let a = m.0 in (omega (arith, low, a), m.1)
+modest-less k t u low (Here told n e b s) m = let a = m.0 in (omega (arith, low, a), m.1, m.2)
+modest-less k t u low (Returned told n e served) m = let a = m.0 in (omega (arith, low, a), m.1, m.2)
+modest-less k t u low (Gone told n e) m = let a = m.0 in (omega (arith, low, a), m.1)
+modest-less k t u low (Over last) m = omega (arith, low, m)
+
+-- by how many tell it of those that do not leave, and how many leave
+pub left-most : (k : Whole) (K : ℕ) (p : Part) (st : Station) → IsModest k (staying_tellers k.leaving p.nodes K) (seat_of p)
+    → left_with k K p st ≤ k.written + k.answers + 14 + 7 * k.requests + 9 * leavers k.leaving K
 left-most k K p st m =
     let a = spoken-most k st.client st.client.phase in
     let b = heard-most k st.client (seat_of p) in
-    let c = way-most k st.client (tellers p.nodes K) (seat_of p) m in omega (arith, a, b, c)
+    let n = nodes-most k p.nodes K in
+    let c = way-most k st.client (staying_tellers k.leaving p.nodes K) (seat_of p) m in omega (arith, a, b, c, n)
 
 -- ---- all connections
 

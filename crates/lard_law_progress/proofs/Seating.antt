@@ -3,9 +3,9 @@ use Rattle.std.proofs.Common.{◌≡◌, ◌≤◌, ◌+◌, ◌==◌, ℕ, Bool
 use Rattle.std.proofs.lemmas.Bool.{cond-false}
 use Rattle.std.proofs.lemmas.Bool.Decides.{nat_tests}
 use Rattle.lard_law_view.specs.Prelude.{BackRow, ControlBlock, Epoch, FilesAt, Final, FrontConn, FrontEnv, FrontPart, FrontRest, FrontRow, NodePart, Part, Service, Station, front_rest, front_rests, offering, symbols, with_front, with_node}
-use Rattle.lard_bound.specs.Seats.{Held, Offered, Over, Refused, SeatNow, Unborn, Waiting, seat_away, seat_by, seat_decided, seat_in, seat_of, seat_there, seat_untaken, tells_end}
+use Rattle.lard_bound.specs.Seats.{Held, Offered, Over, Refused, SeatNow, Unborn, Waiting, seat_away, seat_by, seat_decided, seat_in, seat_of, seat_there, seat_untaken, tells_over}
 use Rattle.lard_bound.specs.Spots.{post_of, spot_of}
-use Rattle.lard_bound.specs.Units.{Whole, left_with, tellers}
+use Rattle.lard_bound.specs.Units.{Whole, left_with, nodes_left}
 use Rattle.lard_handoff_back.specs.Leaving.{is_this_epoch}
 use Rattle.lard_rules.specs.Front as front
 use Rattle.lard_handoff_front.specs.declared.row.FrontConn.TheVariants as stage
@@ -68,7 +68,7 @@ module _ (w : Whole) (K : ℕ) (files : FilesAt) (p : Part) (st : Station) where
   pub front-stays : (f : FrontPart) → seat_of (with_front p f) ≡ seat_of p → Lasting w K files p st (with_front p f) st
   unfolding spot_of
   front-stays f same = record {
-    less = let e : left_with w K (with_front p f) st ≡ left_with w K p st = ap (λ (s : SeatNow). left_by w st s (tellers p.nodes K)) same in omega (arith, e);
+    less = let e : left_with w K (with_front p f) st ≡ left_with w K p st = ap (λ (s : SeatNow). left_by w st s (nodes_left w p.nodes K)) same in omega (arith, e);
     steady = λ up i. record {
       phase = st.client.phase;
       isn = st.client.send.iss;
@@ -76,7 +76,7 @@ module _ (w : Whole) (K : ℕ) (files : FilesAt) (p : Part) (st : Station) where
       una = st.client.send.una;
       last = symbols st.client.send;
       post = post_of files st.client (same i);
-      telling = λ z. tells_end (p.nodes z).row;
+      telling = λ z. tells_over (p.nodes z);
     };
   }
 

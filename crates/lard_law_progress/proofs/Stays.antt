@@ -301,6 +301,7 @@ module _ (env : NodeEnv) (kept fetches : List Kept) where
     serves = λ way e rest w may first is p. onward-then a w (serves_with (answered env.serve way e.verdict w.service) e rest w) p
         (serves-on way e rest w (may-parts w.service.block.reset w.service.block.send.finished w.service.over may).1 first is);
     stops = λ w may p. p;
+    holds = λ w leaves none may p. p;
   }) a (onward-self a)
 
   -- a stay that begins reads its first batch

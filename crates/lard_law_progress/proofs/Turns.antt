@@ -215,6 +215,18 @@ module _ (x : ClientBlock) (env : NodeEnv) where
             (cases_lt (batch_left w.batch) (batch_left s.stay.batch));
       })
 
+  -- ---- nothing is done yet
+
+  pub no-works : (b : ControlBlock) (s : Staying) → Works b s s.kept s.fetches (work_of b s.stay)
+  no-works b s = record {
+    una = omega arith;
+    shut = λ e. e;
+    stale = omega arith;
+    more = omega arith;
+    cheap = omega arith;
+    way = inr (inr (inr (record { total = refl; awaits = refl; asks = refl; batch = refl; kept_is = refl; fetches_are = refl })));
+  }
+
   -- ---- the timer: no turn of the stay
 
   pub timer-works : (b : ControlBlock) (s : Staying) → Works b s s.kept s.fetches (work_of (after_timer b) s.stay)

@@ -101,6 +101,7 @@ module _ (m : Machine) (t : Timers m) (c : ℕ) where
       client-on e kind.Ask has run = absurd (both_ways false refl (sym (t.kept c (Client e) has kind.Ask) ∙ run))
       client-on e kind.Fetch has run = absurd (both_ways false refl (sym (t.kept c (Client e) has kind.Fetch) ∙ run))
       client-on e kind.Ended has run = absurd (both_ways false refl (sym (t.kept c (Client e) has kind.Ended) ∙ run))
+      client-on e kind.Give has run = absurd (both_ways false refl (sym (t.kept c (Client e) has kind.Give) ∙ run))
 
 -- ---- the step
 

@@ -4,7 +4,7 @@ use Rattle.std.proofs.lemmas.Bool.{cond_both}
 use Rattle.lard_law_view.specs.Prelude.{Body, Client, FilesAt, Front, Letter, Machine, Message, MsgFault, Node, Packet, Phase, Place, Reason, Said, SegFault, ToClient, ToCluster, conn, conn_of, decoded, decoded_message, file_at, letter_of, packet_at}
 use Rattle.lard_base.specs.declared.place.Reason.TheVariants as reason
 use Rattle.lard_bound.specs.Chains.{aside_chain, chain_between, front_chain, is_current, node_chain, of_message, reply_chain, word_result}
-use Rattle.lard_bound.specs.Nears.{Crosses, IsAnswer, IsNews, IsUntold, IsUnaware, NearAside, NearBetween, NearEnd, NearEnded, NearEnding, NearClosing, NearForward, NearGive, NearHeld, NearLast, NearOffer, NearRefused, NearReply, NearSaid, NearSegment, NearTaken, NearTold, NearWord, OfMessage, OfSegment}
+use Rattle.lard_bound.specs.Nears.{Crosses, IsAnswer, NearReturn, IsNews, IsUntold, IsUnaware, NearAside, NearBetween, NearEnd, NearEnded, NearEnding, NearClosing, NearForward, NearGive, NearHeld, NearLast, NearOffer, NearRefused, NearReply, NearSaid, NearSegment, NearTaken, NearTold, NearWord, OfMessage, OfSegment}
 use Rattle.lard_bound.specs.Progress.{NearOn, chain_on}
 use Rattle.lard_bound.specs.Spots.{AtFront, AtNode, Declined, Ended, EndpointSymbols, GaveBack, InLine, Left, Nowhere, OnOffer, Post, Spot}
 use Rattle.lard_client.specs.declared.phase.Phase.TheVariants as phase
@@ -156,9 +156,13 @@ module _ (t : Spot) where
   refused-never k i (Declined n e) h = none 1 (omega arith) h.2
   refused-never k i _ h = h
 
-  give-never : (k i : ℕ) (p : Post) → NearGive 0 k i p → ⊥
-  give-never k i (GaveBack told n e) h = none 1 (omega arith) h.2
-  give-never k i _ h = h
+  given-never : (k i : ℕ) (p : Post) → NearReturn 0 k i p → ⊥
+  given-never k i (GaveBack told n e) h = none 1 (omega arith) h.2
+  given-never k i _ h = h
+
+  give-never : (k i : ℕ) → NearGive t 0 k i → ⊥
+  give-never k i (inl h) = given-never k i t.post h
+  give-never k i (inr h) = none 2 (omega arith) h.1
 
   forward-never : (k i : ℕ) (r : Result Said SegFault) (p : Post) → NearForward t 0 k i r p → ⊥
   forward-never k i (Ok s) (AtNode told n e ends a) h = held-never ends s t.phase h.2
@@ -175,12 +179,13 @@ module _ (t : Spot) where
   told-never c k i (body.Forward segment) h = forward-never k i (decoded segment c ToCluster) t.post h
   told-never c k i (body.Tag number nodes) h = none 1 (omega arith) h.1
   told-never c k i body.EndedAck h = none 1 (omega arith) h.1
+  told-never c k i body.Given h = none 1 (omega arith) h.1
   told-never c k i _ h = h
 
   said-never : (k i : ℕ) (b : Body) → NearSaid t 0 k i b → ⊥
   said-never k i body.Taken h = taken-never i t.post h
   said-never k i body.Refused h = refused-never k i t.post h
-  said-never k i (body.Give parts) h = give-never k i t.post h
+  said-never k i (body.Give parts) h = give-never k i h
   said-never k i (body.Ask number queue size paths) h = none 2 (omega arith) h.1
   said-never k i (body.Ended why snd rcv count) h = ending-never k i t.post h
   said-never k i _ h = h

@@ -1,12 +1,12 @@
 -- What a node's step leaves at its disk: the jobs that were there, and those that its turn queues.
-use Rattle.std.proofs.Common.{◌≡◌, ℕ, List, [], ◌++◌, Option, Some, None, Result, Ok, Err, refl, sym, ap, ◌∙◌, append-nil}
+use Rattle.std.proofs.Common.{◌≡◌, ℕ, true, false, List, [], ◌++◌, Option, Some, None, Result, Ok, Err, refl, sym, ap, ◌∙◌, append-nil}
 use Rattle.std.proofs.lemmas.Bool.{cond_both}
 use Rattle.std.specs.List.{list_any}
 use Rattle.lard_law_view.specs.Prelude.{Body, Client, ControlBlock, EndpointParts, Front, Job, Message, MsgFault, Node, NodeEnv, NodePart, NodeSetting, NodeState, NodeTurn, Out, Place, Stay, ToCluster, aside, back_endpoint, both_of, decoded, fetched, fetched_file, is_for, node_deed, node_env, node_gets, node_hears, node_offered, node_part, node_tagged, node_timer, nothing_done}
 use Rattle.lard_law_settles.proofs.CourseQueueing.{QueuesNone, StartsNone, rule-none}
 use Rattle.lard_message.specs.declared.message.Body.TheVariants as body
 use Rattle.lard_rules.specs.Node as node
-use Rattle.lard_rules.proofs.NodeCases.{IsInItsEpoch}
+use Rattle.lard_rules.proofs.NodeCases.{IsOfItsEpoch}
 
 -- ---- a turn
 
@@ -56,7 +56,7 @@ module _ (k : NodeSetting) (s : NodeState) where
   tags c e number nodes (node.Says messages) is = record { jobs = []; disk = refl; why = Nothing refl }
   tags c e number nodes (node.Does given) is = record { jobs = given.1.jobs; disk = refl; why = Tagged c e number nodes given refl refl is refl refl }
 
-  quiet : (from : Place) (c e : ℕ) (b : Body) (g : node.NodeGets) → IsInItsEpoch (node_env k s c e) (node_part s c) g → StartsNone g
+  quiet : (from : Place) (c e : ℕ) (b : Body) (g : node.NodeGets) → IsOfItsEpoch (node_env k s c e) (node_part s c) g → StartsNone g
       → Leaves from (Ok (record { c = c; epoch = record { 0 = e }; body = b })) (node_deed k s c (node.node_rule (node_env k s c e) (node_part s c) g)).0
   quiet from c e b g same starts =
       let d = node.node_rule (node_env k s c e) (node_part s c) g in
@@ -76,7 +76,8 @@ module _ (k : NodeSetting) (s : NodeState) where
   hears Front c e (body.Forward bytes) = quiet Front c e (body.Forward bytes) (node.Forwarded (decoded bytes c ToCluster)) tt tt
   hears Front c e (body.Tag number nodes) =
       tags c e number nodes (node_tagged (node_env k s c e) (node_part s c) number nodes) refl
-  hears Front c e body.EndedAck = quiet Front c e body.EndedAck node.Acknowledged tt tt
+  hears Front c e body.EndedAck = quiet Front c e body.EndedAck (node.Acknowledged false) tt tt
+  hears Front c e body.Given = quiet Front c e body.Given (node.Acknowledged true) tt tt
   hears Front c e _ = rests Front _
   hears (Node a) c e (body.Fetch n path) = asks a c e n path (k.files path)
   hears (Node a) c e (body.Content n bytes) = quiet (Node a) c e (body.Content n bytes) (node.Content a n) tt tt

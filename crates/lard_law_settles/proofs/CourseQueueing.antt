@@ -1,11 +1,12 @@
 -- No rule of a node queues a job but where an Offer or a Tag comes: behind a job that was done its disk has the jobs behind it.
 use Rattle.std.proofs.Common.{◌≡◌, ℕ, ◌+◌, ◌-◌, ◌==◌, nat_lt, List, [], ◌∷◌, ◌++◌, Option, Some, refl, ap, ◌∙◌, append-nil}
 use Rattle.std.proofs.lemmas.Bool.{cond_both}
-use Rattle.lard_law_view.specs.Prelude.{Job, NodeEnv, NodePart, NodeSetting, NodeState, Out, Progress, Work, came_for, come_on, come_progress, completed, content_sent, disk_step, goes_on, job_at, node_brought, node_deed, node_env, node_part, node_read, node_step, on_segment, read_progress, without_job, work_of}
-use Rattle.lard_rules.specs.declared.node.BackIn.TheVariants as back
+use Rattle.lard_law_view.specs.Prelude.{Job, NodeEnv, NodePart, NodeSetting, NodeState, Out, Progress, Work, came_for, come_on, come_progress, completed, content_sent, disk_step, goes_on, job_at, node_brought, node_deed, node_env, node_part, node_read, node_step, on_segment, read_progress, without, without_job, work_of}
+use Rattle.lard_base.specs.declared.place.TimerKind.TheVariants as kind
+use Rattle.lard_rules.specs.declared.node.BackIn.TheVariants as input
 use Rattle.lard_rules.specs.Node as node
 use Rattle.lard_rules.specs.NodePlace as place
-use Rattle.lard_rules.proofs.NodeCases.{IsInItsEpoch, node-keeps}
+use Rattle.lard_rules.proofs.NodeCases.{IsOfItsEpoch, Turned, node-keeps}
 use Rattle.lard_rules.proofs.StayKeeping.{turning-keeps}
 
 -- what came adds none
@@ -35,18 +36,25 @@ StartsNone (node.Offered parts) = ⊥
 StartsNone (node.Tagged number nodes) = ⊥
 StartsNone _ = Unit {0}
 
-pub rule-none : (env : NodeEnv) (p : NodePart) (g : node.NodeGets) → IsInItsEpoch env p g → StartsNone g → QueuesNone (node.node_rule env p g)
+-- behind a turn, whether the connection stays or goes back
+turns-none : (env : NodeEnv) (q : NodePart) (w : Work) → w.jobs ≡ [] → Turned QueuesNone env q [] w
+turns-none env q w none = (λ rests. none, λ back. none)
+
+pub rule-none : (env : NodeEnv) (p : NodePart) (g : node.NodeGets) → IsOfItsEpoch env p g → StartsNone g → QueuesNone (node.node_rule env p g)
 rule-none env p = node-keeps env p StartsNone QueuesNone (record {
   drops = tt;
-  hears = λ said b s m at. goes-none env (work_of (on_segment b said).1 s) refl;
+  hears = λ said b s m at. let w = work_of (on_segment b said).1 s in turns-none env p (goes_on env w) (goes-none env w refl);
   tags = λ number nodes b s m at asked same named. absurd m;
-  comes = λ from r b s m at wanted. goes-none env (came_for (come_progress from) r (work_of b s)) (came-same (come_progress from) r (work_of b s));
-  reads = λ r path b s m at. goes-none env (came_for read_progress r (work_of b s)) (came-same read_progress r (work_of b s));
-  begins = λ parts m is. absurd m;
+  comes = λ from r b s m at wanted. let w = came_for (come_progress from) r (work_of b s) in
+      turns-none env (record p { fetches = without kind.Fetch r p.fetches }) (goes_on env w) (goes-none env w (came-same (come_progress from) r (work_of b s)));
+  reads = λ r path b s m at. let w = came_for read_progress r (work_of b s) in turns-none env p (goes_on env w) (goes-none env w (came-same read_progress r (work_of b s)));
+  begins = λ parts m is may. absurd m;
   takes_again = λ parts m is. tt;
+  refuses = λ parts m is. absurd m;
   fires = λ b s m at. refl;
   resends = λ m none. tt;
-  ends = λ m awaits. refl;
+  ends = λ back m awaits was. refl;
+  leaves = λ b s m at back. refl;
 })
 
 module _ (k : NodeSetting) where
@@ -64,7 +72,7 @@ module _ (k : NodeSetting) where
       (rule-none (node_env k s job.c job.epoch.0) (node_part s job.c) (node.Completed job.r job.path) tt tt))
       (λ t. append-nil s.disk)
 
-  pub first-disk : (s : NodeState) (job : Job) (jobs : List Job) → s.disk ≡ job ∷ jobs → (node_step k s (back.Disk 1)).0.disk ≡ jobs
+  pub first-disk : (s : NodeState) (job : Job) (jobs : List Job) → s.disk ≡ job ∷ jobs → (node_step k s (input.Disk 1)).0.disk ≡ jobs
   first-disk s job jobs is =
       let at : job_at s.disk 1 ≡ Some job = ap (λ (js : List Job). job_at js 1) is in
       let rest : (completed k s 1 job).disk ≡ jobs = ap (λ (js : List Job). without_job js 1) is in

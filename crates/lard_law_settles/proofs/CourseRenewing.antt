@@ -1,13 +1,13 @@
--- What awaits an answer is near where it is sent again: an Offer, an Ask, a Fetch, an Ended.
-use Rattle.std.proofs.Common.{nat_lt, cond, ◌&&◌, ◌%◌, ◌/◌, ◌≡◌, ◌<◌, ◌==◌, ◌^◌, ◌*◌, ◌+◌, ℕ, Bool, true, false, List, [], ◌∷◌, length, Option, Some, None, is_some, refl, sym, ap, ◌∙◌, subst, arith, le-ltb}
+-- What awaits an answer is near where it is sent again: an Offer, an Ask, a Fetch, an Ended, a Give.
+use Rattle.std.proofs.Common.{nat_lt, cond, ◌&&◌, ◌%◌, ◌/◌, ◌≡◌, ◌<◌, ◌==◌, ◌^◌, ◌*◌, ◌+◌, ℕ, Bool, true, false, List, [], ◌∷◌, length, Option, Some, None, inr, is_some, refl, sym, ap, ◌∙◌, subst, arith, le-ltb}
 use Rattle.std.specs.Prelude.{◌⊎◌}
 use Rattle.std.proofs.lemmas.Bool.{cond-false, cond_both}
 use Rattle.std.proofs.lemmas.Bool.Decides.{nat_tests}
 use Rattle.std.specs.List.{AllByRecursion, find}
 use Rattle.lard_law_view.specs.Prelude.{BackConn, BackRow, Body, Conn, ControlBlock, EndpointParts, FilesAt, Final, Front, FrontConn, FrontRow, IsMessage, Kept, Message, Node, NodePart, Part, Station, Stay, ask_kept, ended_kept, fetch_kept, fetching, front_rest, is_from, is_under, named_paths, names_epoch, spelled_message}
 use Rattle.lard_base.specs.declared.place.TimerKind.TheVariants as kind
-use Rattle.lard_bound.specs.Nears.{IsWanted, Near, NearAside, NearAsk, NearEnding, NearOffer, NearSaid, NearTold, OfMessage}
-use Rattle.lard_bound.specs.Seats.{Gone, Over, SeatNow, seat_decided, seat_of, seat_there, seat_untaken, stay_of, staying_of, tells_end}
+use Rattle.lard_bound.specs.Nears.{IsWanted, Near, NearAside, NearAsk, NearEnding, NearGive, NearOffer, NearSaid, NearTold, OfMessage}
+use Rattle.lard_bound.specs.Seats.{Gone, Over, SeatNow, seat_decided, seat_of, seat_there, seat_untaken, stay_of, staying_of, telling_by, tells_end, tells_over}
 use Rattle.lard_bound.specs.Spots.{AtNode, Spot, awaits_of, ends_of, post_of, spot_of}
 use Rattle.lard_handoff_back.specs.declared.row.BackConn.TheVariants as back
 use Rattle.lard_handoff_front.specs.declared.row.FrontConn.TheVariants as stage
@@ -54,6 +54,16 @@ pub record IsEnded (c e : ℕ) (ks : List Kept) : Type 0 where
   pub is : ks ≡ ended_kept c e last count ∷ []
   pub may : IsMessage (of_conn c e (body.Ended last.reason last.snd.0 last.rcv.0 count))
 
+pub record IsGiven (c e : ℕ) (ks : List Kept) : Type 0 where
+  pub parts : EndpointParts
+  pub is : ks ≡ record { kind = kind.Give; r = 0; to = Front; bytes = message c e (body.Give parts) } ∷ []
+  pub may : IsMessage (of_conn c e (body.Give parts))
+
+-- what tells that a stay is over: that it ended, or the Give
+abbrev pub ToldKept : ℕ → ℕ → List Kept → Option ℕ → Type 0
+ToldKept c e ks None = IsEnded c e ks
+ToldKept c e ks (Some served) = IsGiven c e ks
+
 abbrev pub StayKept : FilesAt → ℕ → ℕ → NodePart → Option Stay → Type 0
 StayKept files c e p None = ⊥
 StayKept files c e p (Some s) = ((p.kept ≡ []) ⊎ IsAsk files c e s p.kept) × AllByRecursion (IsFetched files c e) p.fetches
@@ -61,7 +71,7 @@ StayKept files c e p (Some s) = ((p.kept ≡ []) ⊎ IsAsk files c e s p.kept) �
 abbrev pub StageKept : FilesAt → ℕ → ℕ → NodePart → BackConn → Type 0
 StageKept files c e p (back.Here b) = StayKept files c e p p.stay
 StageKept files c e p back.Out = ⊥
-StageKept files c e p back.Ended = IsEnded c e p.kept × (p.fetches ≡ [])
+StageKept files c e p back.Ended = ToldKept c e p.kept p.beside.returned × (p.fetches ≡ [])
 StageKept files c e p back.Gone = (p.kept ≡ []) × (p.fetches ≡ [])
 
 abbrev pub BackKept : FilesAt → ℕ → NodePart → Option BackRow → Type 0
@@ -85,7 +95,8 @@ pub record Renews (files : FilesAt) (x : Conn) : Type 0 where
   pub front : RowKept x.c x.part.front.kept x.part.front.row
   pub nodes : (n : ℕ) → BackKept files x.c (x.part.nodes n) (x.part.nodes n).row
   pub homes : (n e : ℕ) (b : ControlBlock) → (x.part.nodes n).row ≡ Some (record { stage = back.Here b; epoch = record { 0 = e } }) → IsWithNode x.part n e
-  pub ends : (n e : ℕ) → (x.part.nodes n).row ≡ Some (record { stage = back.Ended; epoch = record { 0 = e } }) → IsTold (seat_of x.part) n e
+  pub ends : (n e : ℕ) → (x.part.nodes n).row ≡ Some (record { stage = back.Ended; epoch = record { 0 = e } }) → (x.part.nodes n).beside.returned ≡ None
+      → IsTold (seat_of x.part) n e
 
 -- ---- what is near
 
@@ -107,7 +118,7 @@ module _ (files : FilesAt) (p : Part) (st : Station) (c : ℕ) where
   unfolding spot_of
   post-is = refl
 
-  telling-is : (n : ℕ) → t.telling n ≡ tells_end (p.nodes n).row
+  telling-is : (n : ℕ) → t.telling n ≡ tells_over (p.nodes n)
   unfolding spot_of
   telling-is n = refl
 
@@ -168,11 +179,21 @@ module _ (files : FilesAt) (p : Part) (st : Station) (c : ℕ) where
 
     -- ---- of an end
 
-    told-near : (p.nodes n).row ≡ Some (record { stage = back.Ended; epoch = record { 0 = e } }) → IsTold (seat_of p) n e → NearEnding t 3 n e t.post
-    told-near row (Left told is) = subst (NearEnding t 3 n e) (sym (post-is ∙ ap (post_of files st.client) is)) (refl, omega arith)
-    told-near row (Known last is) = subst (NearEnding t 3 n e) (sym (post-is ∙ ap (post_of files st.client) is)) (telling-is n ∙ ap tells_end row, omega arith)
+    told-near : (p.nodes n).row ≡ Some (record { stage = back.Ended; epoch = record { 0 = e } }) → (p.nodes n).beside.returned ≡ None → IsTold (seat_of p) n e
+        → NearEnding t 3 n e t.post
+    told-near row ungiven (Left told is) = subst (NearEnding t 3 n e) (sym (post-is ∙ ap (post_of files st.client) is)) (refl, omega arith)
+    told-near row ungiven (Known last is) = subst (NearEnding t 3 n e) (sym (post-is ∙ ap (post_of files st.client) is))
+        (telling-is n ∙ (λ i. telling_by (tells_end (row i)) (ungiven i)), omega arith)
 
-    pub ended-near : (p.nodes n).row ≡ Some (record { stage = back.Ended; epoch = record { 0 = e } }) → IsTold (seat_of p) n e → (x : IsEnded c e (p.nodes n).kept)
+    pub ended-near : (p.nodes n).row ≡ Some (record { stage = back.Ended; epoch = record { 0 = e } }) → (p.nodes n).beside.returned ≡ None → IsTold (seat_of p) n e
+        → (x : IsEnded c e (p.nodes n).kept)
         → Near files t c 3 (record { from = Node n; to = Front; bytes = message c e (body.Ended x.last.reason x.last.snd.0 x.last.rcv.0 x.count) })
-    ended-near row is x =
-        subst (OfMessage (λ (m : Message). NearSaid t 3 n m.epoch.0 m.body)) (sym (again (of_conn c e (body.Ended x.last.reason x.last.snd.0 x.last.rcv.0 x.count)) x.may)) (told-near row is)
+    ended-near row ungiven is x =
+        subst (OfMessage (λ (m : Message). NearSaid t 3 n m.epoch.0 m.body)) (sym (again (of_conn c e (body.Ended x.last.reason x.last.snd.0 x.last.rcv.0 x.count)) x.may)) (told-near row ungiven is)
+
+    -- of a connection that goes back
+    pub given-near : (p.nodes n).row ≡ Some (record { stage = back.Ended; epoch = record { 0 = e } }) → (served : ℕ) → (p.nodes n).beside.returned ≡ Some served
+        → (x : IsGiven c e (p.nodes n).kept) → Near files t c 3 (record { from = Node n; to = Front; bytes = message c e (body.Give x.parts) })
+    given-near row served given x =
+        let near : NearGive t 3 n e = inr (telling-is n ∙ (λ i. telling_by (tells_end (row i)) (given i)), omega arith) in
+        subst (OfMessage (λ (m : Message). NearSaid t 3 n m.epoch.0 m.body)) (sym (again (of_conn c e (body.Give x.parts)) x.may)) near

@@ -147,7 +147,7 @@ module _ (Given : Conn → Type 0) (Came : Conn → Move → Type 0) (all : ℕ 
         let kept = node-kept m i s q there in
         let same_put : given.0 ≡ (node_deed ks s q (node.Does g)).0 = put ∙ ap (λ (j : ℕ). (node_deed ks s j (node.Does g)).0) same in
         let part = deed-part m q n (event.Deliver k) (rec.Got k ∷ []) i s given g there got same_put in
-        tags q i e tag nodes env g number (record { place = refl; number = refl; files = refl; stream = refl; node = refl; epoch_is = refl; leaves = ap leaves_at (sym there) }) (ap (λ (z : NodePart). node_tagged env z tag nodes) kept ∙ here) part
+        tags q i e tag nodes env g number (record { place = refl; number = refl; files = refl; stream = refl; node = refl; epoch_is = refl; leaves = ap leaves_at (sym there); remains = step.view.remain i s there }) (ap (λ (z : NodePart). node_tagged env z tag nodes) kept ∙ here) part
 
     by-why : (job : Job) (js : List Job) → Why ks s p.from (decoded_message p.bytes) given.0 js → Has job js → Comes
     by-why job js (Nothing none) has up = absurd (subst (Has job) none has)

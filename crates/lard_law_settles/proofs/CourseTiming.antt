@@ -12,7 +12,7 @@ use Rattle.lard_bound.specs.Spots.{spot_of}
 use Rattle.lard_bound.specs.Units.{Whole, units}
 use Rattle.lard_law_view.proofs.Turned.{has-map}
 use Rattle.lard_law_settles.proofs.CourseOwing.{IsFirst}
-use Rattle.lard_law_settles.proofs.CourseRenewing.{BackKept, IsAsk, IsEnded, IsFetched, OfferKept, Renews, RowKept, StageKept, StayKept, ask-near, ended-near, fetch-near, offer-near}
+use Rattle.lard_law_settles.proofs.CourseRenewing.{BackKept, IsAsk, IsFetched, OfferKept, Renews, RowKept, StageKept, StayKept, ToldKept, ask-near, ended-near, fetch-near, given-near, offer-near}
 use Rattle.lard_rules.specs.Front as front
 use Rattle.lard_handoff_back.specs.declared.row.BackConn.TheVariants as back
 use Rattle.lard_message.specs.declared.message.Body.TheVariants as body
@@ -101,6 +101,7 @@ module _ (k : Setting) (w : Whole) (x : Conn) (st : Station) (is : x.part.statio
   node-on q kind.Ask on = inr (inl (λ none. both_ways false refl (sym (ap (holds_kind kind.Ask) none) ∙ on)))
   node-on q kind.Fetch on = inr (inr (λ none. both_ways false refl (sym (ap (holds_kind kind.Fetch) none) ∙ on)))
   node-on q kind.Ended on = inr (inl (λ none. both_ways false refl (sym (ap (holds_kind kind.Ended) none) ∙ on)))
+  node-on q kind.Give on = inr (inl (λ none. both_ways false refl (sym (ap (holds_kind kind.Give) none) ∙ on)))
 
   module _ (n : ℕ) (env : NodeEnv) (renews : Renews k.files x) where
     abbrev q : NodePart
@@ -161,13 +162,17 @@ module _ (k : Setting) (w : Whole) (x : Conn) (st : Station) (is : x.part.statio
       here-armed here (inr a) each (inr (inl some)) = asks-near a
       here-armed here ask each (inr (inr some)) = fetches-near q.fetches refl each some
 
-    -- the end of a stay is told again
-    end-near : (e : ℕ) → q.row ≡ Some (record { stage = back.Ended; epoch = record { 0 = e } }) → IsEnded x.c e q.kept → NodeNear (node.Says (again_sent q))
-    end-near e row g lasts =
-        let near = ended-near k.files x.part st x.c n e row (renews.ends n e row) g in
-        let j : Kept = node.ended_kept x.c e g.last g.count in
-        let has : Has j (q.kept ++ q.fetches) = has-before j q.kept q.fetches (subst (Has j) (sym g.is) (inl refl)) in
+    -- that a stay is over is told again: it ended, or the connection goes back
+    again-near : (j : Kept) → q.kept ≡ j ∷ [] → Near k.files (spot_of k.files x.part st) x.c 3 (letter (Node n) (sent_of j)) → NodeNear (node.Says (again_sent q))
+    again-near j is near lasts =
+        let has : Has j (q.kept ++ q.fetches) = has-before j q.kept q.fetches (subst (Has j) (sym is) (inl refl)) in
         near-by (node_does x n (event_seen (event.Timer (Node n) x.c)) (node.Says (again_sent q))) lasts (letter (Node n) (sent_of j)) (said-none j has) near
+
+    over-near : (e : ℕ) → q.row ≡ Some (record { stage = back.Ended; epoch = record { 0 = e } }) → (o : Option ℕ) → q.beside.returned ≡ o → ToldKept x.c e q.kept o
+        → NodeNear (node.Says (again_sent q))
+    over-near e row None none g = again-near (node.ended_kept x.c e g.last g.count) g.is (ended-near k.files x.part st x.c n e row none (renews.ends n e row none) g)
+    over-near e row (Some served) given g =
+        again-near (record { kind = kind.Give; r = 0; to = Front; bytes = message x.c e (body.Give g.parts) }) g.is (given-near k.files x.part st x.c n e row served given g)
 
     by-stay : HereNear → (e : ℕ) (b : ControlBlock) → q.row ≡ Some (record { stage = back.Here b; epoch = record { 0 = e } }) → (o : Option Stay) → q.stay ≡ o → StayKept k.files x.c e q o → Armed (Some b)
         → NodeNear (node.node_fired_by env q (both_of (Some b) o))
@@ -177,7 +182,7 @@ module _ (k : Setting) (w : Whole) (x : Conn) (st : Station) (is : x.part.statio
     by-back : HereNear → (row : BackRow) → q.row ≡ Some row → (c : BackConn) → row.stage ≡ c → StageKept k.files x.c row.epoch.0 q c → Armed (back_held c) → NodeNear (node.node_fired_by env q (both_of (back_held c) q.stay))
     by-back here row at (back.Here b) is_ kept armed = by-stay here row.epoch.0 b (at ∙ λ i. Some (record { stage = is_ i; epoch = record { 0 = row.epoch.0 } })) q.stay refl kept armed
     by-back here row at back.Out is_ kept armed = absurd kept
-    by-back here row at back.Ended is_ kept armed = end-near row.epoch.0 (at ∙ λ i. Some (record { stage = is_ i; epoch = record { 0 = row.epoch.0 } })) kept.0
+    by-back here row at back.Ended is_ kept armed = over-near row.epoch.0 (at ∙ λ i. Some (record { stage = is_ i; epoch = record { 0 = row.epoch.0 } })) q.beside.returned refl kept.0
     by-back here row at back.Gone is_ kept armed = absurd (nothing-on armed kept)
 
     by-node : HereNear → (o : Option BackRow) → q.row ≡ o → BackKept k.files x.c q o → Armed (back_endpoint o) → NodeNear (node.node_fired_by env q (both_of (back_endpoint o) q.stay))

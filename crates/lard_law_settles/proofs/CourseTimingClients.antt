@@ -13,7 +13,7 @@ use Rattle.lard_bound.specs.Spots.{Post, Spot, ends_of, post_of, spot_of}
 use Rattle.lard_bound.specs.Units.{Whole, symbols_taken}
 use Rattle.lard_client.specs.declared.phase.Phase.TheVariants as phase
 use Rattle.lard_law_settles.proofs.CourseOwing.{IsFirst}
-use Rattle.lard_law_settles.proofs.CourseRenewing.{BackKept, OfferKept, Renews, RowKept, StageKept}
+use Rattle.lard_law_settles.proofs.CourseRenewing.{BackKept, OfferKept, Renews, RowKept, StageKept, ToldKept}
 use Rattle.lard_law_settles.proofs.CourseResending.{bit, IsResent, first-is, resent-first}
 use Rattle.lard_law_settles.proofs.CourseTiming.{not-off, SendsNear, near-by}
 use Rattle.lard_handoff_back.specs.declared.row.BackConn.TheVariants as back
@@ -231,7 +231,10 @@ module _ (k : Setting) (w : Whole) (x : Conn) (st : Station) (is : x.part.statio
       by-seat (Here true n e b (staying_of (x.part.nodes n))) (seat-with x.part n e true row at moved ∙ away-here true n e (front_rest x.part.front.rest).count (x.part.nodes n) b there)
       (at-endpoint 2 (omega arith) b (on-off (is_clear b.send) unsaid) (f.here n e b there))
   by-node row n e at moved d back.Out is_ kept = absurd kept
-  by-node row n e at moved d back.Ended is_ kept = absurd (both_ways false refl (sym (sym (ap (holds_kind kind.Ended) kept.0.is) ∙ off-node n kind.Ended)))
+  by-node row n e at moved d back.Ended is_ kept = absurd (told-runs (x.part.nodes n).beside.returned kept.0) where
+    told-runs : (o : Option ℕ) → ToldKept x.c d.row.epoch.0 (x.part.nodes n).kept o → ⊥
+    told-runs None g = both_ways false refl (sym (sym (ap (holds_kind kind.Ended) g.is) ∙ off-node n kind.Ended))
+    told-runs (Some served) g = both_ways false refl (sym (sym (ap (holds_kind kind.Give) g.is) ∙ off-node n kind.Give))
   by-node row n e at moved d back.Gone is_ kept = absurd (d.stays is_)
 
   by-stage : (row : FrontRow) → x.part.front.row ≡ Some row → (c : FrontConn) → row.stage ≡ c → OfferKept x.c x.part.front.kept c → NearAtPost t.post

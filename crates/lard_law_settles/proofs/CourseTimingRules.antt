@@ -80,7 +80,7 @@ module _ (k : Setting) (all : ℕ → Whole) where
         let here : IsFirst x.part (Node n) = subst (IsFirst x.part) (sym same) first in
         node-begins k (all x.c) x fired.station fired.there n env kn.renews
         (here-begins k (all x.c) x fired.station fired.there kn.renews n epoch env of (λ told e b. kn.here told n e b)) here lasts up)
-        (λ r path known lasts p e. absurd (no-event p x.c (sym (node-heads x n [] _) ∙ e))) g;
+        (λ g known lasts p e. absurd (no-event p x.c (sym (node-heads x n [] _) ∙ e))) g;
     aside = λ x n a allowed. asides x n a;
   })
 

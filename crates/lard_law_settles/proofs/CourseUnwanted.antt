@@ -1,8 +1,8 @@
 -- A content that is awaited is not ignored: its node makes its request ready, and awaits it no longer.
 use Rattle.std.proofs.Common.{◌≡◌, ℕ, true, cond, List, [], ◌∷◌, ◌++◌, length, Option, Some, None, Ok, refl, sym, ap, ◌∙◌, subst, arith}
-use Rattle.std.proofs.lemmas.Bool.{cond-true}
+use Rattle.std.proofs.lemmas.Bool.{cond-true, cond_both}
 use Rattle.std.specs.List.{find}
-use Rattle.lard_law_view.specs.Prelude.{BackConn, BackRow, Body, Came, Conn, ControlBlock, Ending, Epoch, Event, Kept, Letter, Machine, Message, Move, Node, NodeEnv, NodePart, NodeSetting, NodeState, NodeTurn, Out, Packet, Part, Row, Seen, Stay, Want, Work, came_for, came_seen, come_by, come_progress, conn, conn_of, decoded_message, goes_on, grown, here, is_from, is_under, kept_after, kept_at, letter_of, machine_step, node_at, node_content, node_deed, node_env, node_gets, node_hears, node_part, node_rests, node_setting, packet_at, part_of, serving_settled, setting_of, wants_kept, with_node, with_work, without, work_of}
+use Rattle.lard_law_view.specs.Prelude.{BackConn, BackRow, Body, Came, Conn, ControlBlock, Ending, Epoch, Event, Kept, Letter, Machine, Message, Move, Node, NodeEnv, NodePart, NodeSetting, NodeState, NodeTurn, Out, Packet, Part, Row, Seen, Stay, Want, Work, came_for, came_seen, come_by, come_progress, conn, conn_of, decoded_message, gives_back, goes_on, grown, here, is_from, is_under, kept_after, kept_at, kept_back, letter_of, machine_step, may_give_back, node_at, node_content, node_deed, node_env, node_gets, node_hears, node_part, node_rests, node_setting, node_turns, packet_at, part_of, serving_settled, setting_of, turn_back, wants_kept, with_node, with_work, without, work_of}
 use Rattle.lard_base.specs.declared.event.Event.TheVariants as event
 use Rattle.lard_base.specs.declared.place.TimerKind.TheVariants as kind
 use Rattle.lard_bound.specs.Progress.{came_in}
@@ -56,11 +56,20 @@ module _ (env : NodeEnv) (q : NodePart) (b : ControlBlock) (s : Stay) (e : ℕ) 
       let rows = sym (ap (λ (x : NodePart). x.row) same) in
       stages-apart b (record { 0 = e }) (record { 0 = env.epoch }) (sym row ∙ rows)
 
-  pub content-changes : (here env.epoch q ≡ Some (b, s)) → (d : node.NodeDeed) → node_content env q from r ≡ d → (given : NodePart × NodeTurn) × (d ≡ node.Does given) × (given.0 ≡ q → ⊥)
+  -- it is not as it was
+  abbrev Changes : node.NodeDeed → Type 0
+  Changes d = (given : NodePart × NodeTurn) × (d ≡ node.Does given) × (given.0 ≡ q → ⊥)
+
+  turn-changes : Changes (node_turns env qq [] w)
+  turn-changes = cond_both (may_give_back env w) (gives_back env qq [] w) (with_work env qq [] w) Changes
+      (λ t. ((kept_back env qq w, turn_back env [] w), refl, λ same. stages-apart b (record { 0 = e }) (record { 0 = env.epoch }) (sym row ∙ sym (ap (λ (x : NodePart). x.row) same))))
+      (λ f. (node_rests env qq [] w, refl, differs (serving_settled env.serve w.service).0))
+
+  pub content-changes : (here env.epoch q ≡ Some (b, s)) → (d : node.NodeDeed) → node_content env q from r ≡ d → Changes d
   content-changes is d deed =
-      let does : node_content env q from r ≡ node.Does (node_rests env qq [] w) =
-      ap (come_by env from r q) is ∙ cond-true (is_from from env.epoch (find (is_under kind.Fetch r) q.fetches)) (with_work env qq [] w) node.Drops wanted in
-      (node_rests env qq [] w, sym deed ∙ does, differs (serving_settled env.serve w.service).0)
+      let does : node_content env q from r ≡ node_turns env qq [] w =
+      ap (come_by env from r q) is ∙ cond-true (is_from from env.epoch (find (is_under kind.Fetch r) q.fetches)) (node_turns env qq [] w) node.Drops wanted in
+      subst Changes (sym does ∙ deed) turn-changes
 
 -- ---- the step
 

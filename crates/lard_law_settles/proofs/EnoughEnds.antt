@@ -3,7 +3,6 @@
 use Rattle.std.proofs.Common.{◌≡◌, ◌≤◌, ℕ, List, Ok, ap, ◌∙◌, Bool, subst}
 use Rattle.std.specs.Prelude.{All}
 use Rattle.lard_law_view.specs.Prelude.{Config, Event, Machine, config_check, conn, file_at, machine_start, setting, which_leave, with_leaving}
-use Rattle.lard_base.proofs.Usable.{usable}
 use Rattle.lard_bound.specs.Bound.{IsOrdinary, settling_bound}
 use Rattle.lard_laws.specs.Records.{IsRunFile, IsScheduled}
 use Rattle.lard_laws.proofs.RecordsNamed.{files-named}
@@ -25,12 +24,12 @@ use Rattle.lard_settling.specs.Settling.{settled}
 module _ (config : Config) (files : List (List ℕ × List ℕ)) (checked : config_check config ≡ Ok tt) (are : All IsRunFile files) where
   -- all that is given of a connection within
   known : (m p : Machine) → IsWithin config files m p → (q : ℕ)
-      → Known (with_leaving (setting config files) (which_leave m)) (wholes (file_at files) m.journal) (conn p q)
+      → Known (with_leaving (setting config files) (which_leave m)) (wholes (file_at files) (which_leave m) m.journal) (conn p q)
   known m p w q =
       let given = rules-given config files checked are m p w q in
-      subst (λ (l : ℕ → Bool). Known (with_leaving (setting config files) l) (wholes (file_at files) m.journal) (conn p q)) w.leaving_same (
+      subst (λ (l : ℕ → Bool). Known (with_leaving (setting config files) l) (wholes (file_at files) (which_leave m) m.journal) (conn p q)) w.leaving_same (
         given,
-        timers-known config files (usable config checked).stream p w.reached (holds config files checked are m p w) (files-named files are) q (free-tale config files checked are m p w q) (wholes (file_at files) m.journal) given,
+        timers-known config files checked p w.reached (holds config files checked are m p w) (files-named files are) q (free-tale config files checked are m p w q) (wholes (file_at files) (which_leave m) m.journal) given,
       )
 
   -- of a state whose journal can be written out

@@ -1,6 +1,6 @@
 -- What the timers of a settle rest on is so of each connection of each machine within.
-use Rattle.std.proofs.Common.{◌≡◌, ◌≤◌, ◌==◌, ℕ, true, false, List, Option, Some, refl, subst}
-use Rattle.lard_law_view.specs.Prelude.{ClientBlock, Config, Conn, ControlBlock, IsConnNumber, IsConnSound, IsReached, MAX_STREAM_BYTES, Machine, Reason, Setting, Station, conn, file_at, setting, tale_at, which_leave, with_leaving}
+use Rattle.std.proofs.Common.{◌≡◌, ◌==◌, ℕ, true, false, List, Option, Some, refl, subst, Ok}
+use Rattle.lard_law_view.specs.Prelude.{ClientBlock, Config, Conn, ControlBlock, IsConnNumber, IsConnSound, IsReached, Machine, Reason, Setting, Station, config_check, conn, file_at, setting, tale_at, which_leave, with_leaving}
 use Rattle.lard_base.specs.declared.place.Reason.TheVariants as reason
 use Rattle.lard_bound.specs.Seats.{Over, seat_of}
 use Rattle.lard_bound.specs.Units.{Whole}
@@ -21,7 +21,7 @@ use Rattle.lard_law_progress.proofs.Leading.{AllGiven}
 use Rattle.lard_law_progress.proofs.Seating.{seat-at}
 use Rattle.lard_law_settles.proofs.EnoughRenewals.{decided-are, renews-are}
 
-module _ (config : Config) (files : List (List ℕ × List ℕ)) (small : config.stream ≤ MAX_STREAM_BYTES) (m : Machine) (reached : IsReached config files m) (holds : Holds m) (named : AreNamed (file_at files)) (q : ℕ)
+module _ (config : Config) (files : List (List ℕ × List ℕ)) (checked : config_check config ≡ Ok tt) (m : Machine) (reached : IsReached config files m) (holds : Holds m) (named : AreNamed (file_at files)) (q : ℕ)
     (free : (tale_at (conn m q)).touched ≡ false) (all : ℕ → Whole) (given : AllGiven (with_leaving (setting config files) (which_leave m)) all (conn m q)) where
   abbrev x : Conn
   x = conn m q
@@ -50,12 +50,12 @@ module _ (config : Config) (files : List (List ℕ × List ℕ)) (small : config
 
   one : (st : Station) → x.part.station ≡ Some st → KnowsTimers k x st
   one st at =
-      let truth = states-truthful config files small m reached q free in
+      let truth = states-truthful config files checked m reached q free in
       let o : IsOpen (file_at files) x truth.talk truth.pend st = subst (ConnAgrees (file_at files) x truth.talk truth.pend) at truth.agrees in
-      let acts : OpenActs x st = subst (StationActs x) at (connections-ack config files small m reached q free) in
+      let acts : OpenActs x st = subst (StationActs x) at (connections-ack config files checked m reached q free) in
       let speaks : SpeaksAt st (seat_of x.part) = seat-speaks (file_at files) x st truth.talk truth.pend o acts (all x.c) (given.known st at).seat in
       record {
-        renews = renews-are config files m reached holds named q (number st at);
+        renews = renews-are config files checked m reached holds named q (number st at);
         timed = record {
           named = sound.client st at;
           sound = o.client.sound;
@@ -67,7 +67,7 @@ module _ (config : Config) (files : List (List ℕ × List ℕ)) (small : config
           unborn = unborn-none (file_at files) x st truth.talk truth.pend o acts;
           held = held-acks (file_at files) x st truth.talk truth.pend o acts;
           here = here-acks (file_at files) x st truth.talk truth.pend o acts;
-          decided = decided-are config files m reached holds named q (number st at);
+          decided = decided-are config files checked m reached holds named q (number st at);
           over = λ row last front closed open_.
               let no_peer : last.reason ≡ reason.Peer → ⊥ = λ why. open-not st at (peer-aborted (file_at files) x st truth.talk truth.pend o acts row last front closed why) open_ in
               let seat : seat_of x.part ≡ Over last = seat-at x.part row (stage.Closed last) front closed in

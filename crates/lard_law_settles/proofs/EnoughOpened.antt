@@ -1,7 +1,6 @@
 -- A client is there only where the journal says that it opened.
 use Rattle.std.proofs.Common.{◌≡◌, ℕ, nat_eq, false, cond, List, [], ◌∷◌, ◌++◌, Option, Some, None, Ok, inl, sym, ap, ◌∙◌, subst}
 use Rattle.std.specs.List.{fold}
-use Rattle.lard_base.proofs.Usable.{usable}
 use Rattle.lard_law_view.specs.Prelude.{Config, Has, IsReached, Machine, Numbers, Rec, Station, Tale, config_check, conn, file_at, is_touched, numbers_step, tale, tale_at}
 use Rattle.lard_bound.specs.Bound.{opener_step, openers}
 use Rattle.lard_law_connections.specs.BytesAgreement.{ConnAgrees, IsOpen, IsTruthful}
@@ -26,7 +25,7 @@ module _ (config : Config) (files : List (List ℕ × List ℕ)) (checked : conf
   tale-is = sym (tale-own p.journal c)
 
   truthful : IsTruthful (file_at files) (conn p c)
-  truthful = states-truthful config files (usable config checked).stream p reached c (ap (λ (t : Tale). t.touched) tale-is ∙ sym (touched-tale p.journal c) ∙ untouched)
+  truthful = states-truthful config files checked p reached c (ap (λ (t : Tale). t.touched) tale-is ∙ sym (touched-tale p.journal c) ∙ untouched)
 
   pub opened-there : (s : Station) → (conn p c).part.station ≡ Some s → Has c (openers p.journal)
   opened-there s at =

@@ -1,17 +1,17 @@
 -- What is known of a connection, so that what is sent again is near: what is kept are messages, and go where they are awaited.
-use Rattle.std.proofs.Common.{◌≡◌, ◌⊎◌, ◌<◌, ◌≤◌, ◌+◌, ◌^◌, ℕ, Bool, true, false, List, [], ◌∷◌, length, Option, Some, None, IfSome, refl, sym, ap, ◌∙◌, subst, arith, inl, inr, ⊎_elim}
+use Rattle.std.proofs.Common.{◌≡◌, ◌⊎◌, ◌<◌, ◌≤◌, ◌+◌, ◌^◌, ℕ, Bool, true, false, List, [], ◌∷◌, length, Option, Some, None, IfSome, refl, sym, ap, ◌∙◌, subst, arith, inl, inr, ⊎_elim, Ok}
 use Rattle.std.specs.List.{AllByRecursion}
-use Rattle.lard_law_view.specs.Prelude.{BackConn, BackRow, Config, Conn, ControlBlock, EndpointParts, Entry, FilesAt, Front, FrontConn, FrontPart, FrontRow, IsConnNumber, IsReached, Kept, Machine, Node, NodePart, NodeState, Part, Progress, Stay, and_path, ask_kept, back_endpoint, conn, ended_kept, file_at, front_rest, kept_at, named_path, named_paths, node_at, node_part, part_of, path_in, tale_at}
+use Rattle.lard_law_view.specs.Prelude.{BackConn, BackRow, Config, Conn, ControlBlock, EndpointParts, Entry, FilesAt, Front, FrontConn, FrontPart, FrontRow, IsConnNumber, IsReached, Kept, Machine, Node, NodePart, NodeState, Part, Progress, Stay, and_path, ask_kept, back_endpoint, config_check, conn, ended_kept, file_at, front_rest, kept_at, named_path, named_paths, node_at, node_part, part_of, path_in, tale_at}
 use Rattle.lard_base.specs.declared.place.TimerKind.TheVariants as kind
 use Rattle.lard_bound.specs.Seats.{seat_by, seat_in, seat_of}
 use Rattle.lard_law_connections.specs.Awaits.{NodeComes, RowComes, StayComes}
 use Rattle.lard_law_connections.proofs.AwaitsRuns.{connections-await}
-use Rattle.lard_laws.proofs.PastRuns.{each-end-is-of-its-stay}
-use Rattle.lard_laws.specs.Past.{IsOfStay, RowTells, stage_whereabouts, whereabouts}
-use Rattle.lard_law_connections.specs.Kept.{AsksFor, FrontRowKeeps, FrontStageKeeps, HereKeeps, IsFetchFromOther, NodeRowKeeps, NodeStageKeeps}
+use Rattle.lard_law_connections.proofs.PastRuns.{each-end-is-of-its-stay}
+use Rattle.lard_law_connections.specs.Past.{IsOfStay, RowTells, stage_whereabouts, whereabouts}
+use Rattle.lard_law_connections.specs.Kept.{AsksFor, FrontRowKeeps, FrontStageKeeps, HereKeeps, IsFetchFromOther, NodeRowKeeps, NodeStageKeeps, TellsOver}
 use Rattle.lard_law_connections.specs.KeptLaws.{AnyNode}
 use Rattle.lard_law_connections.proofs.KeptRuns.{connections-are-kept}
-use Rattle.lard_law_connections.specs.Places.{IsRowEarly, IsStageEarly, IsThere, Owning, Owns, Sits, StageSits, owning}
+use Rattle.lard_law_connections.specs.Places.{IsEarlyEpoch, IsRowEarly, IsThere, Owning, Owns, Sits, StageSits, owning}
 use Rattle.lard_law_connections.proofs.PlacesRuns.{each-placed}
 use Rattle.lard_law_connections.proofs.PlacesTurns.{IsPlaced}
 use Rattle.lard_law_connections.proofs.PlacesWithNode.{with-node}
@@ -22,8 +22,7 @@ use Rattle.lard_laws.proofs.RecordsNodes as records
 use Rattle.lard_laws.proofs.RecordsNodes.{BothKeep, IsEarly, NodeKeeps}
 use Rattle.lard_laws.proofs.RecordsServing.{count-few}
 use Rattle.lard_laws.proofs.RecordsTurns.{AreHeld}
-use Rattle.lard_law_settles.proofs.KnownReturns.{each-ungiven}
-use Rattle.lard_law_settles.proofs.CourseRenewing.{BackKept, IsAsk, IsFetched, IsTold, IsWithNode, Known, Left, OfferKept, Renews, RowKept, StageKept, StayKept}
+use Rattle.lard_law_settles.proofs.CourseRenewing.{BackKept, IsAsk, IsFetched, IsTold, IsWithNode, Known, Left, OfferKept, Renews, RowKept, StageKept, StayKept, ToldKept}
 use Rattle.lard_law_settles.proofs.CourseTimingClients.{IsDecided}
 use Rattle.lard_handoff_back.specs.declared.row.BackConn.TheVariants as back
 use Rattle.lard_handoff_front.specs.declared.row.FrontConn.TheVariants as stage
@@ -35,7 +34,7 @@ use Rattle.lard_rules.specs.declared.stay.Progress.TheVariants as progress
 use Rattle.lard_rules.specs.Node.{message}
 use Rattle.lard_law_progress.proofs.Away.{IsWith, away-ended, seat-with}
 use Rattle.lard_law_settles.proofs.EnoughAwaited.{AreBelow, all-awaited}
-use Rattle.lard_law_settles.proofs.EnoughSpelt.{ask-may, ended-may, fetch-may, offer-may}
+use Rattle.lard_law_settles.proofs.EnoughSpelt.{ask-may, ended-may, fetch-may, give-may, offer-may}
 
 -- ---- where it is
 
@@ -99,7 +98,7 @@ module _ (c : ℕ) (number : IsConnNumber c) where
       let may = offer-may c e number early parts its.0.3 in
       (may.0, is ∙ (λ i. record { kind = kind.Offer; r = 0; to = Node n; bytes = may.1 i } ∷ []), may.2)
 
-  front-by : (p : FrontPart) (d : ℕ) (w : Owning) (nodes : ℕ → NodePart) → AreHeld Front p.kept → (st : FrontConn) → StageSits d w nodes st → IsStageEarly d st → FrontStageKeeps c p st → OfferKept c p.kept st
+  front-by : (p : FrontPart) (d : ℕ) (w : Owning) (nodes : ℕ → NodePart) → AreHeld Front p.kept → (st : FrontConn) → StageSits d w nodes st → IsEarlyEpoch d → FrontStageKeeps c p st → OfferKept c p.kept st
   front-by p d w nodes held (stage.Held b) sits early h = h.1
   front-by p d w nodes held (stage.Waiting b) sits early h = h.1
   front-by p d w nodes held stage.Lent sits early h = absurd h
@@ -167,10 +166,16 @@ module _ (c : ℕ) (number : IsConnNumber c) where
         λ o at s some. (b, subst (records.HereKeeps (Some b)) (at ∙ some) (subst (λ (r : Option BackRow). records.HereKeeps (back_endpoint r) p.stay) is keeps.here)) in
         stayed p.stay keeps.here comes h (all p.stay refl)
     staged back.Out is comes h = absurd h
-    staged back.Ended is comes h =
-        let held : AreHeld (Node n) (ended_kept c e h.0.0 h.0.1 ∷ []) = subst (AreHeld (Node n)) h.0.2 keeps.kept in
-        let may = ended-may c e number early h.0.0 h.0.1 held.0.3 in
-        (record { last = may.0; count = may.1; is = h.0.2 ∙ (λ i. record { kind = kind.Ended; r = 0; to = Front; bytes = may.2 i } ∷ []); may = may.3 }, h.1)
+    staged back.Ended is comes h = (told p.beside.returned h.0, h.1) where
+      told : (o : Option ℕ) → TellsOver c e o p.kept → ToldKept c e p.kept o
+      told None g =
+          let held : AreHeld (Node n) (ended_kept c e g.0 g.1 ∷ []) = subst (AreHeld (Node n)) g.2 keeps.kept in
+          let may = ended-may c e number early g.0 g.1 held.0.3 in
+          record { last = may.0; count = may.1; is = g.2 ∙ (λ i. record { kind = kind.Ended; r = 0; to = Front; bytes = may.2 i } ∷ []); may = may.3 }
+      told (Some served) g =
+          let held : AreHeld (Node n) (record { kind = kind.Give; r = 0; to = Front; bytes = message c e (body.Give g.0) } ∷ []) = subst (AreHeld (Node n)) g.1 keeps.kept in
+          let may = give-may c e number early g.0 held.0.3 in
+          record { parts = may.0; is = g.1 ∙ (λ i. record { kind = kind.Give; r = 0; to = Front; bytes = may.1 i } ∷ []); may = may.2 }
     staged back.Gone is comes h = h
 
   pub node-kept : (files : FilesAt) → AreNamed files → (n most : ℕ) (p : NodePart) → NodeKeeps n most p → NodeComes files p → NodeRowKeeps AnyNode files c n p p.row → BackKept files c p p.row
@@ -181,10 +186,10 @@ module _ (c : ℕ) (number : IsConnNumber c) where
 
 -- ---- in every state
 
-module _ (config : Config) (files : List (List ℕ × List ℕ)) (m : Machine) (reached : IsReached config files m) (holds : Holds m) (named : AreNamed (file_at files)) (q : ℕ) (number : IsConnNumber q) where
+module _ (config : Config) (files : List (List ℕ × List ℕ)) (checked : config_check config ≡ Ok tt) (m : Machine) (reached : IsReached config files m) (holds : Holds m) (named : AreNamed (file_at files)) (q : ℕ) (number : IsConnNumber q) where
   front-is : RowKept q (conn m q).part.front.kept (conn m q).part.front.row
   unfolding conn part_of
-  front-is = front-kept q number (conn m q).part.front (owning (tale_at (conn m q))) (conn m q).part.nodes (holds.parts.front q).kept (each-placed config files m reached q).sits (each-placed config files m reached q).early (connections-are-kept config files m reached q).front
+  front-is = front-kept q number (conn m q).part.front (owning (tale_at (conn m q))) (conn m q).part.nodes (holds.parts.front q).kept (each-placed config files checked m reached q).sits (each-placed config files checked m reached q).early (connections-are-kept config files m reached q).front
 
   node-in : (n : ℕ) (o : Option NodeState) → IfSome o (NodeHolds (length m.net) n) → NodeComes (file_at files) (kept_at q o) → NodeRowKeeps AnyNode (file_at files) q n (kept_at q o) (kept_at q o).row → BackKept (file_at files) q (kept_at q o) (kept_at q o).row
   node-in n None h comes kept = kept
@@ -202,10 +207,10 @@ module _ (config : Config) (files : List (List ℕ × List ℕ)) (m : Machine) (
   renews-are = record {
     front = subst (λ (c : ℕ). RowKept c (conn m q).part.front.kept (conn m q).part.front.row) (sym conn-is) front-is;
     nodes = λ n. subst (λ (c : ℕ). BackKept (file_at files) c ((conn m q).part.nodes n) ((conn m q).part.nodes n).row) (sym conn-is) (nodes-are n);
-    homes = homes-are (conn m q) (each-placed config files m reached q);
-    ends = λ n e is. ends-are (conn m q).part n e is (each-ungiven config files m reached q n) (each-end-is-of-its-stay config files m reached q n);
+    homes = homes-are (conn m q) (each-placed config files checked m reached q);
+    ends = λ n e is none. ends-are (conn m q).part n e is none (each-end-is-of-its-stay config files checked m reached q n);
   }
 
   -- a connection that a node has, as the front end knows
   pub decided-are : (row : FrontRow) (n e : ℕ) → (conn m q).part.front.row ≡ Some row → row.stage ≡ stage.Moved n (record { 0 = e }) → IsDecided ((conn m q).part.nodes n) e
-  decided-are = decided-is (conn m q) (each-placed config files m reached q)
+  decided-are = decided-is (conn m q) (each-placed config files checked m reached q)

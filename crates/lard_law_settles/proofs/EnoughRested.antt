@@ -2,10 +2,9 @@
 use Rattle.std.proofs.Common.{◌≡◌, ◌≤◌, ℕ, false, List, Option, Some, None, Ok, sym, ap, ◌∙◌, subst, Bool}
 use Rattle.std.specs.Prelude.{All}
 use Rattle.lard_law_view.specs.Prelude.{Config, Conn, Event, Letter, Machine, Move, Rules, Seen, Setting, SpellsMessage, Station, config_check, conn, file_at, grown, is_holding, machine_step, part_of, setting, setting_of, tale_at, which_leave, with_leaving}
-use Rattle.lard_base.proofs.Usable.{usable}
 use Rattle.lard_bound.specs.Bound.{IsOrdinary, settling_bound}
 use Rattle.lard_bound.specs.Progress.{IfCame, IsWarm, came_in}
-use Rattle.lard_bound.specs.Units.{tellers, whole_of}
+use Rattle.lard_bound.specs.Units.{Whole, tellers, whole_of}
 use Rattle.lard_bound.specs.Seats.{seat_of}
 use Rattle.lard_laws.specs.Records.{IsRunFile, IsScheduled}
 use Rattle.lard_laws.proofs.RecordsHolding.{Holds}
@@ -68,7 +67,7 @@ module _ (config : Config) (files : List (List ℕ × List ℕ)) (checked : conf
 
   module _ (p : Machine) (w : IsWithin config files m p) where
     pub free-tale : (q : ℕ) → (tale_at (conn p q)).touched ≡ false
-    free-tale q = known.free-tale config files (usable config checked).stream p w.reached q (w.untouched q)
+    free-tale q = known.free-tale config files checked p w.reached q (w.untouched q)
 
     pub all-events : All IsScheduled w.reached.0
     all-events = each-all IsScheduled w.reached.0 w.given
@@ -83,15 +82,16 @@ module _ (config : Config) (files : List (List ℕ × List ℕ)) (checked : conf
     calm : (q : ℕ) → IsCalmConn (conn p q)
     calm q = record {
       calm = λ st at.
-          let f = known.client-fits config files (usable config checked).stream p w.reached q (w.untouched q) st at in
+          let f = known.client-fits config files checked p w.reached q (w.untouched q) st at in
           record { sound = f.sound; fits = f.fits; bytes = f.bytes; speaks = f.speaks; free = known.open-free st.client (free-of q st at); held = f.held };
-      acks = known.acks-fit config files (usable config checked).stream p w.reached q (w.untouched q);
-      offers = known.offers-kept config files (usable config checked).stream p w.reached q;
+      acks = known.acks-fit config files checked p w.reached q (w.untouched q);
+      offers = known.offers-kept config files checked p w.reached q;
     }
 
-    modest : (c : ℕ) (s : Station) → (conn p c).part.station ≡ Some s → IsModest (wholes (file_at files) m.journal c) (tellers (conn p c).part.nodes p.config.nodes) (seat_of (conn p c).part)
-    modest c s at = subst (λ (bytes : List ℕ). IsModest (whole_of (file_at files) bytes) (tellers (conn p c).part.nodes p.config.nodes) (seat_of (conn p c).part)) (w.wrote_same c)
-        (known.modest-of config files (usable config checked).stream p w.reached c (w.untouched c) s at)
+    modest : (c : ℕ) (s : Station) → (conn p c).part.station ≡ Some s → IsModest (wholes (file_at files) (which_leave m) m.journal c) (tellers (conn p c).part.nodes p.config.nodes) (seat_of (conn p c).part)
+    modest c s at = subst (λ (v : Whole). IsModest v (tellers (conn p c).part.nodes p.config.nodes) (seat_of (conn p c).part))
+        (λ i. whole_of (file_at files) (w.leaving_same i) (w.wrote_same c i))
+        (known.modest-of config files checked p w.reached c (w.untouched c) s at)
 
     all-fetches : Fetches p
     all-fetches = fetches config files checked p w.reached holds (subst (λ (fs : List (List ℕ × List ℕ)). AreNamed (file_at fs)) (sym (is-set config files p w.reached).files_are) (files-named files are))
@@ -103,9 +103,9 @@ module _ (config : Config) (files : List (List ℕ × List ℕ)) (checked : conf
 
     all-opened : Opened p
     all-opened = record {
-      offers = λ q i bytes was. front-opened config files (usable config checked).stream checked are w.reached.0 all-events p w.reached.1 (config-of config files p w.reached) q (free-tale q) i bytes was;
+      offers = λ q i bytes was. front-opened config files checked are w.reached.0 all-events p w.reached.1 (config-of config files p w.reached) q (free-tale q) i bytes was;
       fetches = λ q a i e r path bytes was spells.
-          fetch-opened config files (usable config checked).stream checked are w.reached.0 all-events p w.reached.1 (config-of config files p w.reached) q (free-tale q) a i e r path bytes (spells-of q e r path bytes spells) was;
+          fetch-opened config files checked are w.reached.0 all-events p w.reached.1 (config-of config files p w.reached) q (free-tale q) a i e r path bytes (spells-of q e r path bytes spells) was;
     }
 
   -- ---- of all of them, where what is given of each connection is so
@@ -114,10 +114,10 @@ module _ (config : Config) (files : List (List ℕ × List ℕ)) (checked : conf
   k = with_leaving (setting config files) (which_leave m)
 
   abbrev Given : Conn → Type 0
-  Given x = Known k (wholes (file_at files) m.journal) x
+  Given x = Known k (wholes (file_at files) (which_leave m) m.journal) x
 
-  module _ (given : (p : Machine) → IsWithin config files m p → (q : ℕ) → Known k (wholes (file_at files) m.journal) (conn p q)) where
-    warming : Warming config files (wholes (file_at files) m.journal) Good (IsWithin config files m) First Second
+  module _ (given : (p : Machine) → IsWithin config files m p → (q : ℕ) → Known k (wholes (file_at files) (which_leave m) m.journal) (conn p q)) where
+    warming : Warming config files (wholes (file_at files) (which_leave m) m.journal) Good (IsWithin config files m) First Second
     warming = record {
       reached = λ p v. v.reached;
       kept = λ p q e v of is. within-kept config files events m p q e v of is;
@@ -129,12 +129,12 @@ module _ (config : Config) (files : List (List ℕ × List ℕ)) (checked : conf
     setting-within : (p : Machine) → IsWithin config files m p → k ≡ setting_of p
     setting-within p w = ap (λ (l : ℕ → Bool). with_leaving (setting config files) l) (sym w.leaving_same) ∙ setting-is config files p w.reached
 
-    node-given : (p : Machine) → IsWithin config files m p → (q : ℕ) → NodeGiven (setting_of p) (wholes (file_at files) m.journal q) (conn p q)
+    node-given : (p : Machine) → IsWithin config files m p → (q : ℕ) → NodeGiven (setting_of p) (wholes (file_at files) (which_leave m) m.journal q) (conn p q)
     unfolding conn
-    node-given p w q = subst (λ (z : Setting). NodeGiven z (wholes (file_at files) m.journal q) (conn p q)) (setting-within p w) (given p w q).0.node
+    node-given p w q = subst (λ (z : Setting). NodeGiven z (wholes (file_at files) (which_leave m) m.journal q) (conn p q)) (setting-within p w) (given p w q).0.node
 
-    rules : (p : Machine) → IsWithin config files m p → Rules (setting_of p) (Owed Given Comes (wholes (file_at files) m.journal) (setting_of p))
-    rules p w = subst (λ (z : Setting). Rules z (Owed Given Comes (wholes (file_at files) m.journal) z)) (setting-within p w) (rules-owe k (wholes (file_at files) m.journal))
+    rules : (p : Machine) → IsWithin config files m p → Rules (setting_of p) (Owed Given Comes (wholes (file_at files) (which_leave m) m.journal) (setting_of p))
+    rules p w = subst (λ (z : Setting). Rules z (Owed Given Comes (wholes (file_at files) (which_leave m) m.journal) z)) (setting-within p w) (rules-owe k (wholes (file_at files) (which_leave m) m.journal))
 
     comes : (p n : Machine) (e : Event) → Good p → IsMade p e → machine_step p e ≡ Ok n → (q : ℕ) (v : Move) → IsShown p e (conn p q) v → conn n q ≡ grown (conn p q) v → Comes (conn p q) v
     comes p n e w made is q v s grows =
@@ -144,13 +144,13 @@ module _ (config : Config) (files : List (List ℕ × List ℕ)) (checked : conf
           inner = Each-weaker (IsHead e) IsRoundsSeen (rounds-seen e made.0) v.heads s.event;
           warm = came-also (Second (conn p q)) (IsWarm (conn p q)) v.heads second (second-warm (conn p q) sound);
           late = came-also (Second (conn p q)) (IsLateOn (conn p q)) v.heads second (second-late (conn p q));
-          unwanted = unwanted p n e is (listed-always config files p w.0.reached) q (wholes (file_at files) m.journal q) (node-given p w.0 q) v s grows;
+          unwanted = unwanted p n e is (listed-always config files p w.0.reached) q (wholes (file_at files) (which_leave m) m.journal q) (node-given p w.0 q) v s grows;
         }
 
     goes : (p n : Machine) (e : Event) → Good p → IsMade p e → machine_step p e ≡ Ok n → Good n
-    goes p n e w made is = second-stays-so config files (wholes (file_at files) m.journal) Good (IsWithin config files m) First Second warming p n e w made.0 made.1 is
+    goes p n e w made is = second-stays-so config files (wholes (file_at files) (which_leave m) m.journal) Good (IsWithin config files m) First Second warming p n e w made.0 made.1 is
 
-    within : Within Given Comes (wholes (file_at files) m.journal) Good
+    within : Within Given Comes (wholes (file_at files) (which_leave m) m.journal) Good
     within = record {
       view = λ p w. reached-viewed config files p w.0.reached;
       rules = λ p w. rules p w.0;
@@ -160,7 +160,7 @@ module _ (config : Config) (files : List (List ℕ × List ℕ)) (checked : conf
       listed = λ p w. listed-always config files p w.0.reached;
       fetches = λ p w. all-fetches p w.0;
       opened = λ p w. all-opened p w.0;
-      tags = λ p n e w step. tags-fall Given Comes (wholes (file_at files) m.journal) p n e step (node-given p w.0);
+      tags = λ p n e w step. tags-fall Given Comes (wholes (file_at files) (which_leave m) m.journal) p n e step (node-given p w.0);
       timers = λ p w. timers-are config files checked p w.0.reached;
     }
 
@@ -169,7 +169,7 @@ module _ (config : Config) (files : List (List ℕ × List ℕ)) (checked : conf
       calm = calm;
       opened = λ p v c s at. opened-there config files checked p v.reached c (v.untouched c) s at;
       modest = modest;
-      owes = owes Given Comes (wholes (file_at files) m.journal) Good within;
+      owes = owes Given Comes (wholes (file_at files) (which_leave m) m.journal) Good within;
     }
 
     -- so an ordinary settle with enough rounds ends with nothing left

@@ -1,6 +1,6 @@
 -- A settle with as many rounds as its journal's bound ends with nothing left, where each step of its rounds owes what rounds ask for.
 use Rattle.std.proofs.Common.{◌≡◌, ◌≤◌, ℕ, suc, ◌+◌, ◌*◌, ◌-◌, true, List, Result, Ok, Err, refl, sym, ap, ◌∙◌, subst, arith}
-use Rattle.lard_law_view.specs.Prelude.{Config, Machine, StepFault, file_at}
+use Rattle.lard_law_view.specs.Prelude.{Config, Machine, StepFault, file_at, which_leave}
 use Rattle.lard_bound.proofs.Paying.{enough}
 use Rattle.lard_bound.specs.Bound.{settling_bound}
 use Rattle.lard_bound.specs.Units.{Whole, machine_units}
@@ -26,7 +26,7 @@ EndsQuiet n s = (is_quiet n ≡ true) × (done : ℕ) × (s ≡ Quiet done)
 module _ (config : Config) (files : List (List ℕ × List ℕ)) (m : Machine) (w : Is config files m) (rounds : ℕ) where
   -- what each client wrote before the settle
   abbrev pub all : ℕ → Whole
-  all = wholes (file_at files) m.journal
+  all = wholes (file_at files) (which_leave m) m.journal
 
   -- What is owed: steps as rounds ask for where all that is on its way is as two rounds leave it; what holds where the clients took, and
   -- two rounds behind that; and how much may be left then.
@@ -35,13 +35,13 @@ module _ (config : Config) (files : List (List ℕ × List ℕ)) (m : Machine) (
     pub begins : (n t : Machine) (v : Is config files n) → settle_begun m rounds ≡ Ok n → (b : Beside config files n v (takes n) t) → Begun b.is.plain
     pub first : (p q : Machine) → Begun p → Round (game all Good) p q → Between q
     pub second : (p q : Machine) → Between p → Round (game all Good) p q → Good q
-    pub modest : (p : Machine) → Good p → AreModest (file_at files) m.journal p
+    pub modest : (p : Machine) → Good p → AreModest (file_at files) (which_leave m) m.journal p
 
   module _ (Begun Between Good : Machine → Type 0) (h : SettlesBy Begun Between Good) (paid : settling_bound (file_at files) m.journal ≤ rounds) where
     -- two rounds behind the takes few units are left
     few-left : (r : ℕ) → suc (suc r) ≡ rounds → (p : Machine) → Good p → (5 + 1 + 3) * (machine_units all p + 1) ≤ r
     few-left r is p good =
-        let few = units-few (file_at files) m.journal p (h.modest p good) in
+        let few = units-few (file_at files) (which_leave m) m.journal p (h.modest p good) in
         let pays : 9 * (machine_units all p + 1) + 2 ≤ settling_bound (file_at files) m.journal = enough _ _ _ (machine_units all p) few in
         omega (arith, is, pays, paid)
 

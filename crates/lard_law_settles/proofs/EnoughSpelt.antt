@@ -45,6 +45,13 @@ module _ (c e : ℕ) (number : IsConnNumber c) (early : e < 2 ^ 16) where
     go (body.Offer p) k same table fits = (p, respelled c e (body.Offer parts) (body.Offer p) refl (sym same), may (body.Offer p) table fits)
     go _ k same table fits = absurd cc
 
+  pub give-may : (parts : EndpointParts) → IsSpelled (message c e (body.Give parts)) → (p : EndpointParts) × (message c e (body.Give parts) ≡ message c e (body.Give p)) × IsMessage (of_conn c e (body.Give p))
+  give-may parts s = go s.message.body (same-kind (of_conn c e (body.Give parts)) s) (same-body (of_conn c e (body.Give parts)) s) s.is.table s.is.fits where
+    go : (b : Body) → kind_of b ≡ kind.Give → body_bytes b ≡ body_bytes (body.Give parts) → IsOfTable b → FitsFields b
+        → (p : EndpointParts) × (message c e (body.Give parts) ≡ message c e (body.Give p)) × IsMessage (of_conn c e (body.Give p))
+    go (body.Give p) k same table fits = (p, respelled c e (body.Give parts) (body.Give p) refl (sym same), may (body.Give p) table fits)
+    go _ k same table fits = absurd cc
+
   -- what an Ended tells, and how much it counts
   abbrev pub told_end : Final → ℕ → Body
   told_end last count = body.Ended last.reason last.snd.0 last.rcv.0 count

@@ -5,9 +5,9 @@ use Rattle.lard_base.specs.declared.ids.TheConstants.ConnId.{MAX}
 use Rattle.lard_block.specs.Blocks.{Piece}
 use Rattle.lard_bound.specs.Bound.{bytes_both_ways, openers, requests_of, total_of}
 use Rattle.lard_bound.specs.Seats.{seat_of}
-use Rattle.lard_bound.specs.Units.{Whole, left_to_client, left_with, tellers, units, machine_units, units_to, whole_of}
+use Rattle.lard_bound.specs.Units.{Whole, left_to_client, left_with, leavers, machine_units, tellers, units, units_to, whole_of}
 use Rattle.lard_history.proofs.Seeing.{by_number, other_number, same_number}
-use Rattle.lard_law_progress.proofs.Most.{IsModest, left-most}
+use Rattle.lard_law_progress.proofs.Most.{IsModest, fewer-tellers, left-most, modest-less, staying_tellers}
 
 -- ---- sums over numbers
 
@@ -67,10 +67,17 @@ sum-among w (d ∷ cs) q f h =
 
 -- ---- what each is worth
 
-module _ (files : FilesAt) (J : List Rec) where
-  -- what each client wrote, and what that is answered with
+-- where no node leaves
+none-leave : (l : ℕ → Bool) → ((n : ℕ) → l n ≡ false) → (m : ℕ) → leavers l m ≡ 0
+none-leave l stays zero = refl
+none-leave l stays (suc m) =
+    let one : cond (l (suc m)) 1 0 ≡ 0 = ap (λ (t : Bool). cond {A = ℕ} t 1 0) (stays (suc m)) in
+    let rest = none-leave l stays m in omega (arith, one, rest)
+
+module _ (files : FilesAt) (l : ℕ → Bool) (J : List Rec) where
+  -- what each client wrote, and what that is answered with; and which nodes leave
   abbrev pub wholes : ℕ → Whole
-  wholes c = whole_of files (wrote J c)
+  wholes c = whole_of files l (wrote J c)
 
   abbrev worth : ℕ → ℕ
   worth c = bytes_both_ways files J c + 14 + 7 * requests_of J c
@@ -97,6 +104,7 @@ module _ (files : FilesAt) (J : List Rec) where
 
   -- What is known of each connection: a client is there only where it opened, and its connection is modest.
   pub record AreModest (m : Machine) : Type 0 where
+    pub stays : (n : ℕ) → l n ≡ false  -- INTERIM: no node leaves yet
     pub opened : (c : ℕ) (s : Station) → (conn m c).part.station ≡ Some s → Has c (openers J)
     pub modest : (c : ℕ) (s : Station) → (conn m c).part.station ≡ Some s → IsModest (wholes c) (tellers (conn m c).part.nodes m.config.nodes) (seat_of (conn m c).part)
 
@@ -111,9 +119,12 @@ module _ (files : FilesAt) (J : List Rec) where
       go None at = inl (ap (left_to_client (wholes c) m.config.nodes (conn m c).part) at)
       go (Some s) at =
           let is : left_of c ≡ left_with (wholes c) m.config.nodes (conn m c).part s = ap (left_to_client (wholes c) m.config.nodes (conn m c).part) at in
-          let most = left-most (wholes c) m.config.nodes (conn m c).part s (h.modest c s at) in
+          let fewer = fewer-tellers l (conn m c).part.nodes m.config.nodes in
+          let most = left-most (wholes c) m.config.nodes (conn m c).part s (modest-less (wholes c) (tellers (conn m c).part.nodes m.config.nodes)
+          (staying_tellers l (conn m c).part.nodes m.config.nodes) fewer (seat_of (conn m c).part) (h.modest c s at)) in
           let few = requests-few c in
-          inr (h.opened c s at, omega (arith, is, most, few))
+          let none = none-leave l h.stays m.config.nodes in
+          inr (h.opened c s at, omega (arith, is, most, few, none))
 
     sum-is : (q : ℕ) → units_to wholes m q ≡ sum_to left_of q
     unfolding units_to

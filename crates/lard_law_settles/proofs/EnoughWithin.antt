@@ -13,6 +13,7 @@ use Rattle.lard_bound.specs.Units.{tellers}
 use Rattle.lard_law_view.proofs.Carried.{reached-viewed}
 use Rattle.lard_law_view.proofs.Runs.{passes-more}
 use Rattle.lard_laws.specs.Records.{IsScheduled}
+use Rattle.lard_law_connections.proofs.LeaversSteps.{leaving-stays}
 use Rattle.lard_law_settles.specs.CourseGame.{game}
 use Rattle.lard_history.proofs.Each.{Each, Each-append}
 use Rattle.lard_journal.specs.declared.rec.Rec.TheVariants as rec
@@ -22,6 +23,7 @@ use Rattle.lard_law_settles.proofs.EnoughBeside.{Beside, Is}
 use Rattle.lard_law_settles.proofs.EnoughHolders.{holder-before, none-holds}
 use Rattle.lard_law_settles.proofs.EnoughRuling.{step-warms}
 use Rattle.lard_law_settles.proofs.EnoughSettled.{EndsQuiet, SettlesBy, settled-quiet}
+use Rattle.lard_law_connections.proofs.LeaversStays.{none-leaves}
 use Rattle.lard_law_settles.proofs.EnoughSums.{wholes}
 use Rattle.lard_law_settles.proofs.EnoughTelling.{PassesOver, inner-over, openers-over, touched-over, wrote-over}
 use Rattle.lard_law_progress.proofs.Given.{IsRounds, rounds-rule}
@@ -29,7 +31,6 @@ use Rattle.lard_law_settles.proofs.EnoughWarming.{OfAll, Warming, first-round, s
 use Rattle.lard_law_settles.proofs.EnoughWording.{First, IsCalmConn, Second, second-first}
 use Rattle.lard_law_settles.proofs.SettlesEvents.{begun-is}
 use Rattle.lard_law_settles.proofs.SettlesFiring.{IsInner}
-use Rattle.lard_law_settles.proofs.SettlesLeaving.{leaving-stays}
 use Rattle.lard_settling.specs.declared.settled.Settled.{Settled}
 use Rattle.lard_settling.specs.Left.{is_holder}
 use Rattle.lard_settling.specs.Settling.{settled, takes}
@@ -203,11 +204,11 @@ module _ (config : Config) (files : List (List ℕ × List ℕ)) where
       pub calm : (p : Machine) → IsWithin m p → (q : ℕ) → IsCalmConn (conn p q)
       pub opened : (p : Machine) → IsWithin m p → (c : ℕ) (s : Station) → (conn p c).part.station ≡ Some s → Has c (openers p.journal)
       pub modest : (p : Machine) → IsWithin m p → (c : ℕ) (s : Station) → (conn p c).part.station ≡ Some s
-          → IsModest (wholes (file_at files) m.journal c) (tellers (conn p c).part.nodes p.config.nodes) (seat_of (conn p c).part)
-      pub owes : Owes (game (wholes (file_at files) m.journal) Good) 5 3
+          → IsModest (wholes (file_at files) (which_leave m) m.journal c) (tellers (conn p c).part.nodes p.config.nodes) (seat_of (conn p c).part)
+      pub owes : Owes (game (wholes (file_at files) (which_leave m) m.journal) Good) 5 3
 
     module _ (events : AreGiven) (h : SettlesWithin) (given : Each IsScheduled w.reached.0) (ordinary : IsOrdinary m.journal) where
-      warming : Warming config files (wholes (file_at files) m.journal) Good (IsWithin m) First Second
+      warming : Warming config files (wholes (file_at files) (which_leave m) m.journal) Good (IsWithin m) First Second
       warming = record {
         reached = λ p v. v.reached;
         kept = λ p q e v of is. within-kept events m p q e v of is;
@@ -219,9 +220,10 @@ module _ (config : Config) (files : List (List ℕ × List ℕ)) where
       settles-by = record {
         owes = h.owes;
         begins = λ n t v begun b. begun-within events m n t rounds w v given ordinary begun b;
-        first = λ p q v r. first-round config files (wholes (file_at files) m.journal) Good (IsWithin m) First Second warming p q v r;
-        second = λ p q v r. second-round config files (wholes (file_at files) m.journal) Good (IsWithin m) First Second warming p q v r;
+        first = λ p q v r. first-round config files (wholes (file_at files) (which_leave m) m.journal) Good (IsWithin m) First Second warming p q v r;
+        second = λ p q v r. second-round config files (wholes (file_at files) (which_leave m) m.journal) Good (IsWithin m) First Second warming p q v r;
         modest = λ p v. record {
+          stays = λ n. ap (λ (l : ℕ → Bool). l n) (sym v.0.leaving_same) ∙ none-leaves p (reached-viewed config files p v.0.reached) n;
           opened = λ c s at. subst (Has c) v.0.openers_same (h.opened p v.0 c s at);
           modest = λ c s at. h.modest p v.0 c s at;
         };

@@ -34,7 +34,7 @@ has-target (Some rest) h = go rest.target refl h where
   go None at h = absurd h
   go (Some path) at h = (path, at)
 
-module _ (files : FilesAt) (x : Conn) (st : Station) (k : Talk) (pend : List Verdict) (o : IsOpen files x k pend st) (way : GoesItsWay files x) (keeps : FrontKeeps x.c x.part.front) (w : Whole) (is : w ≡ whole_of files k.w.bytes) where
+module _ (files : FilesAt) (x : Conn) (st : Station) (k : Talk) (pend : List Verdict) (o : IsOpen files x k pend st) (way : GoesItsWay files x) (keeps : FrontKeeps x.c x.part.front) (w : Whole) (is : w ≡ whole_of files w.leaving k.w.bytes) where
   requests-are : w.requests ≡ length (verdicts k.w.bytes)
   requests-are = ap (λ (w : Whole). w.requests) is
 

@@ -1,7 +1,8 @@
 -- What a settle's rounds want of each machine within them, of each connection: of its client, of what comes to it, and of the Offers that are
 -- kept; who opened; and how much is left to do.
-use Rattle.std.proofs.Common.{◌≡◌, ◌≤◌, ◌<◌, ◌^◌, ◌&&◌, ℕ, Bool, true, false, List, [], Option, Some, None, Result, Ok, refl, sym, ap, ◌∙◌, subst}
-use Rattle.lard_law_view.specs.Prelude.{Client, ClientBlock, Config, Conn, EndpointParts, Front, FrontConn, FrontRow, GoesBetween, IsClientBlock, IsReached, IsReply, Kept, Letter, MAX_STREAM_BYTES, Machine, Node, Place, Said, SegFault, Speaks, Station, Tale, Talk, ToClient, Verdict, Was, conn, decoded, file_at, is_holding, is_open_in, is_touched, sent_of, spelled, tale, tale_at, wrote}
+use Rattle.std.proofs.Common.{◌≡◌, ◌<◌, ◌^◌, ◌&&◌, ℕ, Bool, true, false, List, [], Option, Some, None, Result, Ok, refl, sym, ap, ◌∙◌, subst}
+use Rattle.lard_law_view.specs.Prelude.{Client, ClientBlock, Config, Conn, EndpointParts, Front, FrontConn, FrontRow, GoesBetween, IsClientBlock, IsReached, IsReply, Kept, Letter, Machine, Node, Place, Said, SegFault, Speaks, Station, Tale, Talk, ToClient, Verdict, Was, config_check, conn, decoded, file_at, is_holding, is_open_in, is_touched, sent_of, spelled, tale, tale_at, which_leave, wrote}
+use Rattle.lard_base.proofs.Usable.{usable}
 use Rattle.lard_bound.specs.Seats.{seat_of}
 use Rattle.lard_bound.specs.Units.{tellers, whole_of}
 use Rattle.lard_client.specs.declared.phase.Phase.TheVariants.{Open}
@@ -50,7 +51,7 @@ none-offers c ks e = subst (Each (IsOfferOf c)) (sym e) tt
 
 -- ---- openers
 
-module _ (config : Config) (files : List (List ℕ × List ℕ)) (small : config.stream ≤ MAX_STREAM_BYTES) (m : Machine) (reached : IsReached config files m) (q : ℕ) where
+module _ (config : Config) (files : List (List ℕ × List ℕ)) (checked : config_check config ≡ Ok tt) (m : Machine) (reached : IsReached config files m) (q : ℕ) where
   abbrev x : Conn
   x = conn m q
 
@@ -66,7 +67,7 @@ module _ (config : Config) (files : List (List ℕ × List ℕ)) (small : config
 
     open-of : (st : Station) → x.part.station ≡ Some st → (k : Talk) × (pend : List Verdict) × IsOpen (file_at files) x k pend st
     open-of st at =
-        let truth = states-truthful config files small m reached q free-tale in
+        let truth = states-truthful config files checked m reached q free-tale in
         (truth.talk, truth.pend, subst (ConnAgrees (file_at files) x truth.talk truth.pend) at truth.agrees)
 
     -- ---- its client
@@ -74,7 +75,7 @@ module _ (config : Config) (files : List (List ℕ × List ℕ)) (small : config
     pub client-fits : (st : Station) → x.part.station ≡ Some st → ClientFits st.client
     client-fits st at =
         let client = (open-of st at).2.client in
-        let spoken : ClientHasSpoken st.client = subst StationHasSpoken at (connections-have-spoken config files small m reached q).client in
+        let spoken : ClientHasSpoken st.client = subst StationHasSpoken at (connections-have-spoken config files (usable config checked).stream m reached q).client in
         record { sound = client.sound; fits = client.wide; bytes = (open-of st at).0.w.bytes; speaks = client.speaks; held = spoken.nothing_held }
 
     -- ---- what comes to it
@@ -92,7 +93,7 @@ module _ (config : Config) (files : List (List ℕ × List ℕ)) (small : config
       l = record { from = from; to = Client x.c; bytes = bytes }
 
       between : GoesBetween x.c from (Client x.c) bytes
-      between = between-has x.c l x.letters was ((view config files small m reached q).sound q).between
+      between = between-has x.c l x.letters was ((view config files checked m reached q).sound q).between
 
       by-from : (f : Place) (st : Station) (k : Talk) → GoesBetween x.c f (Client x.c) bytes → IsFairOn k x.c x.part f (Client x.c) bytes → s.ack < 2 ^ 32
       by-from (Client d) st k b fair = absurd b
@@ -101,7 +102,7 @@ module _ (config : Config) (files : List (List ℕ × List ℕ)) (small : config
 
       go : (o : Option Station) → x.part.station ≡ o → s.ack < 2 ^ 32
       go None at =
-          let truth = states-truthful config files small m reached q free-tale in
+          let truth = states-truthful config files checked m reached q free-tale in
           let u : IsConnUnopened x = subst (ConnAgrees (file_at files) x truth.talk truth.pend) at truth.agrees in
           absurd (has-each IsInner l x.letters was u.inner).1
       go (Some st) at =
@@ -110,10 +111,10 @@ module _ (config : Config) (files : List (List ℕ × List ℕ)) (small : config
 
     -- ---- how much is left to do
 
-    pub modest-of : (st : Station) → x.part.station ≡ Some st → IsModest (whole_of (file_at files) (wrote m.journal q)) (tellers x.part.nodes m.config.nodes) (seat_of x.part)
+    pub modest-of : (st : Station) → x.part.station ≡ Some st → IsModest (whole_of (file_at files) (which_leave m) (wrote m.journal q)) (tellers x.part.nodes m.config.nodes) (seat_of x.part)
     modest-of st at =
         let same : (tale_at x).wrote ≡ wrote m.journal q = sym (ap (λ (t : Tale). t.wrote) its-tale) ∙ sym (wrote-tale m.journal q) in
-        subst (λ (bytes : List ℕ). IsModest (whole_of (file_at files) bytes) (tellers x.part.nodes m.config.nodes) (seat_of x.part)) same (each-modest config files small m reached q free-tale st at)
+        subst (λ (bytes : List ℕ). IsModest (whole_of (file_at files) (which_leave m) bytes) (tellers x.part.nodes m.config.nodes) (seat_of x.part)) same (each-modest config files checked m reached q free-tale st at)
 
   -- ---- what the front end keeps of it
 

@@ -1,7 +1,7 @@
 -- What a client's answers rest on, from the laws of every run.
 use Rattle.std.proofs.Common.{◌≡◌, ◌≤◌, ◌==◌, ℕ, Bool, true, false, List, length, Some, Ok, refl, ap, subst, arith}
 use Rattle.std.proofs.lemmas.Bool.{both_ways, eqb-true}
-use Rattle.lard_law_view.specs.Prelude.{Client, Conn, ControlBlock, FilesAt, Final, Front, Letter, Node, Place, Reason, Said, Station, ToClient, Was, decoded, is_open_in, seq_offset, symbols}
+use Rattle.lard_law_view.specs.Prelude.{Client, Conn, ControlBlock, FilesAt, Final, Front, Letter, Node, Place, Reason, Said, Setting, Station, ToClient, Was, decoded, is_open_in, seq_offset, symbols}
 use Rattle.lard_base.specs.declared.place.Reason.TheVariants.{Closed, Limit, Peer}
 use Rattle.lard_bound.specs.Seats.{Held, Here, Over, SeatNow, seat_of}
 use Rattle.lard_bound.specs.Units.{Whole, symbols_taken}
@@ -36,7 +36,7 @@ pub record IsMet (x : Conn) (st : Station) : Type 0 where
   pub closed : st.client.phase ≡ Open → st.client.send.una ≡ 0 → (last : Final) → seat_of x.part ≡ Over last → last.reason ≡ Closed → ⊥
   pub limit : st.client.phase ≡ Open → st.client.send.una ≡ 0 → (last : Final) → seat_of x.part ≡ Over last → last.reason ≡ Limit → ⊥
 
-module _ (files : FilesAt) (stream : ℕ) (x : Conn) (st : Station) (at : x.part.station ≡ Some st) (laws : IsLawful files stream x) (nodes : ℕ) (w : Whole) (known : Known nodes w x st)
+module _ (files : FilesAt) (stream : ℕ) (x : Conn) (st : Station) (at : x.part.station ≡ Some st) (laws : IsLawful files stream x) (set : Setting) (w : Whole) (known : Known set w x st)
     (closed : (last : Final) → seat_of x.part ≡ Over last → HasClosed st last) (free : st.client.phase ≡ Open → st.client.holding ≡ false) where
   abbrev o : IsOpen files x laws.truth.talk laws.truth.pend st
   o = opens files stream x st at laws
@@ -51,7 +51,7 @@ module _ (files : FilesAt) (stream : ℕ) (x : Conn) (st : Station) (at : x.part
   few-symbols = let count : length laws.truth.talk.w.bytes ≡ st.client.send.total = o.client.speaks.part.count in let f = few in let e = one-most st.client.send.finished in omega (arith, count, f, e)
 
   talks-at : (n e : ℕ) (b : ControlBlock) → HasIt x n e b → IsTalking st b
-  talks-at n e b has = talks-there files stream x st at laws nodes w known n e b has
+  talks-at n e b has = talks-there files stream x st at laws set w known n e b has
 
   -- no more was taken than it has, where that matters
   heard-within : (z : SeatNow) → seat_of x.part ≡ z → st.client.phase ≡ Open → Matters z → acts.heard ≤ symbols st.client.send
@@ -163,11 +163,11 @@ module _ (files : FilesAt) (stream : ℕ) (x : Conn) (st : Station) (at : x.part
 -- ---- in the form of what is given
 
 -- of whatever station is there
-pub client-given : (files : FilesAt) (stream : ℕ) (x : Conn) → (laws : IsLawful files stream x) → (nodes : ℕ) (w : Whole) → ((st : Station) → x.part.station ≡ Some st → Known nodes w x st)
+pub client-given : (files : FilesAt) (stream : ℕ) (x : Conn) → (laws : IsLawful files stream x) → (set : Setting) (w : Whole) → ((st : Station) → x.part.station ≡ Some st → Known set w x st)
     → ((st : Station) → x.part.station ≡ Some st → (last : Final) → seat_of x.part ≡ Over last → HasClosed st last) → ((st : Station) → x.part.station ≡ Some st → st.client.phase ≡ Open → st.client.holding ≡ false)
     → ((st : Station) (at : x.part.station ≡ Some st) → IsMet x st) → ClientGiven x
-client-given files stream x laws nodes w known closed free met = record {
-  calm = λ st at. client-calm files stream x st at laws nodes w (known st at) (closed st at) (free st at) (met st at);
-  seat = λ st at. client-tells files stream x st at laws nodes w (known st at) (closed st at) (free st at) (met st at);
-  replies = λ st from bytes s at. reply files stream x st at laws nodes w (known st at) (closed st at) (free st at) (met st at) from bytes s;
+client-given files stream x laws set w known closed free met = record {
+  calm = λ st at. client-calm files stream x st at laws set w (known st at) (closed st at) (free st at) (met st at);
+  seat = λ st at. client-tells files stream x st at laws set w (known st at) (closed st at) (free st at) (met st at);
+  replies = λ st from bytes s at. reply files stream x st at laws set w (known st at) (closed st at) (free st at) (met st at) from bytes s;
 }

@@ -39,7 +39,7 @@ one-most false = omega arith
 
 -- ---- one connection
 
-module _ (files : FilesAt) (c : ℕ) (st : Station) (k : Talk) (client : ClientAgrees c k.w k.out st.client) (says : SaysAnswers files k.w k.out k.vs) (w : Whole) (is : w ≡ whole_of files k.w.bytes) where
+module _ (files : FilesAt) (c : ℕ) (st : Station) (k : Talk) (client : ClientAgrees c k.w k.out st.client) (says : SaysAnswers files k.w k.out k.vs) (w : Whole) (is : w ≡ whole_of files w.leaving k.w.bytes) where
   -- no more of it is acknowledged than its SYN, bytes and FIN
   pub client-said : st.client.send.una ≤ w.written + 2
   client-said =

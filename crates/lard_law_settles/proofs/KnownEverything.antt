@@ -2,7 +2,6 @@
 use Rattle.std.proofs.Common.{◌≡◌, ℕ, List, Some, Ok, refl, sym, ap, ◌∙◌, subst, false}
 use Rattle.std.specs.Prelude.{All}
 use Rattle.lard_law_view.specs.Prelude.{Config, Conn, ControlBlock, IsReached, Machine, Setting, Station, Tale, config_check, conn, file_at, is_touched, setting, setting_of, tale_at, which_leave, with_leaving, wrote}
-use Rattle.lard_base.proofs.Usable.{usable}
 use Rattle.lard_bound.specs.Seats.{Held, Waiting, seat_of}
 use Rattle.lard_bound.specs.Units.{Whole, whole_of}
 use Rattle.lard_laws.specs.Records.{IsRunFile, IsScheduled}
@@ -43,7 +42,7 @@ setting-is config files m reached =
 -- ---- a connection
 
 module _ (config : Config) (files : List (List ℕ × List ℕ)) (checked : config_check config ≡ Ok tt) (named : All IsRunFile files) (all : ℕ → Whole) (m : Machine) (reached : IsReached config files m)
-    (given : All IsScheduled reached.0) (q : ℕ) (free : is_touched m.journal q ≡ false) (same : all q ≡ whole_of (file_at files) (wrote m.journal q)) where
+    (given : All IsScheduled reached.0) (q : ℕ) (free : is_touched m.journal q ≡ false) (same : all q ≡ whole_of (file_at files) (which_leave m) (wrote m.journal q)) where
   abbrev x : Conn
   x = conn m q
 
@@ -51,24 +50,24 @@ module _ (config : Config) (files : List (List ℕ × List ℕ)) (checked : conf
   k = with_leaving (setting config files) (which_leave m)
 
   untouched : (tale_at x).touched ≡ false
-  untouched = free-tale config files (usable config checked).stream m reached q free
+  untouched = free-tale config files checked m reached q free
 
   holds : Holds m
   holds = run-holds config files reached.0 m checked named given reached.1
 
   -- what its client wrote, as the connection sees it
   abbrev W : Whole
-  W = written_on config files (usable config checked).stream m reached q
+  W = written_on config files checked m reached q
 
   same-whole : W ≡ all q
-  same-whole = ap (λ (bytes : List ℕ). whole_of (file_at files) bytes) (sym (ap (λ (t : Tale). t.wrote) (its-tale config files (usable config checked).stream m reached q)) ∙ sym (wrote-tale m.journal q)) ∙ sym same
+  same-whole = ap (λ (bytes : List ℕ). whole_of (file_at files) (which_leave m) bytes) (sym (ap (λ (t : Tale). t.wrote) (its-tale config files checked m reached q)) ∙ sym (wrote-tale m.journal q)) ∙ sym same
 
   pub known-by : Given k all x
   unfolding conn
   known-by st at =
-      let h = each-known config files (usable config checked).stream m reached q untouched st at in
-      let n : Known config.nodes W x st = subst (λ (c : Config). Known c.nodes W x st) (config-of config files m reached) h in
-      subst (λ (w : Whole). Known config.nodes w x st) same-whole n
+      let h = each-known config files checked m reached q untouched st at in
+      let n : Known k W x st = subst (λ (z : Setting). Known z W x st) (sym (setting-is config files m reached)) h in
+      subst (λ (w : Whole). Known k w x st) same-whole n
 
   -- where endpoints talk with the client, and the client's own half
   pub record Beside : Type 0 where
@@ -79,7 +78,7 @@ module _ (config : Config) (files : List (List ℕ × List ℕ)) (checked : conf
 
   by-node : Beside → NodeGiven k (all q) x
   by-node beside = subst (λ (w : Whole). NodeGiven k w x) same-whole
-      (node-given config files (usable config checked).stream checked named reached.0 given m reached.1 (config-of config files m reached) q untouched beside.talks
+      (node-given config files checked named reached.0 given m reached.1 (config-of config files m reached) q untouched beside.talks
       (λ st n e b segment bytes s at has spells was read. each-forwarded config files checked m reached q untouched st at n e b segment bytes s has spells was read))
 
   pub given-by : Beside → AllGiven k all x

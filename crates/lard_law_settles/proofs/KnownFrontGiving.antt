@@ -6,8 +6,8 @@ use Rattle.lard_bound.specs.Units.{Whole}
 use Rattle.lard_laws.specs.Acks.{AcksWhatWasTaken}
 use Rattle.lard_law_connections.specs.BytesAgreement.{ConnAgrees, IsTruthful}
 use Rattle.lard_laws.specs.EndedEnds.{EndsAreTrue}
-use Rattle.lard_laws.specs.Past.{EndsAreOfStays}
-use Rattle.lard_law_connections.specs.Places.{EndedBefore, HasEarlyEpoch, IsRowEarly, IsStageEarly, Owning, Sits, SitsAt, StageSits, owning}
+use Rattle.lard_law_connections.specs.Past.{EndsAreOfStays}
+use Rattle.lard_law_connections.specs.Places.{EndedBefore, HasEarlyEpoch, IsEarlyEpoch, IsRowEarly, Owning, Sits, SitsAt, StageSits, owning}
 use Rattle.lard_laws.proofs.RecordsFronts.{RestKeeps}
 use Rattle.lard_laws.proofs.TagsAgree.{Agreed}
 use Rattle.lard_law_settles.proofs.KnownClosing.{has-closed}
@@ -15,7 +15,6 @@ use Rattle.lard_law_settles.proofs.KnownStaying.{asks-given, ended-given}
 use Rattle.lard_handoff_front.specs.declared.row.FrontConn.TheVariants as stage
 use Rattle.lard_law_progress.proofs.AnswersFrontGiven.{AtSeat, ComesBackKnown, FrontGiven, HasTag, IsStage, IsWord}
 use Rattle.lard_law_progress.proofs.AnswersFrontSpots.{away-cases, seat-row}
-use Rattle.lard_law_connections.proofs.PlacesTurns.{small-early}
 
 -- What other laws give of it: of an endpoint that the front end has, of a connection that comes back, and of what its client says.
 pub record IsKnownElsewhere (w : Whole) (x : Conn) : Type 0 where
@@ -26,7 +25,7 @@ pub record IsKnownElsewhere (w : Whole) (x : Conn) : Type 0 where
 
 -- ---- where it sits
 
-stage-sits : (e : ℕ) (o : Owning) (nodes : ℕ → NodePart) (c : FrontConn) → StageSits e o nodes c → IsStageEarly e c → IsStage c
+stage-sits : (e : ℕ) (o : Owning) (nodes : ℕ → NodePart) (c : FrontConn) → StageSits e o nodes c → IsEarlyEpoch e → IsStage c
 stage-sits e o nodes (stage.Held b) h early = tt
 stage-sits e o nodes (stage.Waiting b) h early = tt
 stage-sits e o nodes stage.Lent h early = absurd h
@@ -39,7 +38,7 @@ module _ (N : ℕ → Type 0) (files : FilesAt) (w : Whole) (x : Conn) (sits : S
   row-sits : (row : FrontRow) → x.part.front.row ≡ Some row → StageSits row.epoch.0 (owning (tale_at x)) x.part.nodes row.stage × EndedBefore row.epoch.0 row.ended_by
   row-sits row is = subst (Sits (owning (tale_at x)) x.part.nodes) is sits
 
-  row-early : (row : FrontRow) → x.part.front.row ≡ Some row → IsStageEarly row.epoch.0 row.stage
+  row-early : (row : FrontRow) → x.part.front.row ≡ Some row → IsEarlyEpoch row.epoch.0
   row-early row is = subst IsRowEarly is early
 
   unopened : x.part.station ≡ None → x.part.front.row ≡ None
@@ -49,7 +48,7 @@ module _ (N : ℕ → Type 0) (files : FilesAt) (w : Whole) (x : Conn) (sits : S
   ended-small row e is by =
       let h = row-sits row is in
       let before : e.0 < row.epoch.0 = subst (EndedBefore row.epoch.0) by h.1 in
-      let most = small-early row.epoch.0 row.stage (row-early row is) in
+      let most = row-early row is in
       omega (arith, before, most)
 
   tag-fits : (rest : FrontRest) → x.part.front.rest ≡ Some rest → 0 < rest.asks → HasTag rest

@@ -1,8 +1,9 @@
 -- All that the rules want given is so of each connection that the schedule did not touch, in every state that events lead to.
 use Rattle.std.specs.Int.{from_be_bytes, to_be_bytes, w32}
 use Rattle.std.proofs.lemmas.Nat.{from_be_bytes-to_be_bytes_4}
-use Rattle.std.proofs.Common.{drop, take, ◌≡◌, ◌⊎◌, ◌≤◌, ◌<◌, ◌^◌, ℕ, List, [], ◌∷◌, Some, Ok, ⊎_elim, refl, sym, ap, ◌∙◌, subst, arith}
-use Rattle.lard_law_view.specs.Prelude.{BackRow, Conn, EndpointParts, FilesAt, Front, FrontRow, IsConnNumber, IsStream, Kept, Node, SpellsMessage, Station, Stream, Talk, Verdict, Was, decoded_message, front_rest, offer_answer, parts_of, spelled_message, tale_at}
+use Rattle.std.proofs.lemmas.Bool.{both_ways}
+use Rattle.std.proofs.Common.{drop, take, ◌≡◌, ◌⊎◌, ◌≤◌, ◌<◌, ◌^◌, ℕ, false, List, [], ◌∷◌, Some, Ok, ⊎_elim, refl, sym, ap, ◌∙◌, subst, arith}
+use Rattle.lard_law_view.specs.Prelude.{BackRow, Conn, EndpointParts, FilesAt, Front, FrontRow, IsConnNumber, IsStream, Kept, Node, Setting, SpellsMessage, Station, Stream, Talk, Verdict, Was, decoded_message, front_rest, offer_answer, parts_of, spelled_message, tale_at}
 use Rattle.lard_base.specs.declared.place.TimerKind.TheVariants as kind
 use Rattle.lard_bound.specs.Units.{Whole, whole_of}
 use Rattle.lard_laws.specs.Acks.{OpenActs}
@@ -20,20 +21,23 @@ use Rattle.lard_handoff_back.specs.Leaving.{is_this_epoch}
 use Rattle.lard_handoff_front.specs.declared.row.FrontConn.TheVariants as stage
 use Rattle.lard_law_settles.proofs.KnownCounting.{client-said, client-took, frozen-knows}
 use Rattle.lard_law_settles.proofs.KnownKnowing.{IsPlacing, seat-knows}
-use Rattle.lard_law_settles.proofs.KnownReturns.{IsUngiven}
+use Rattle.lard_law_settles.proofs.KnownReturns.{IsUngiven, IsUnrefused}
 use Rattle.lard_law_settles.proofs.KnownSitting.{IsOfferedAt, new-undecided, said-offered, sits-at, sits-fresh, sits-gone}
 use Rattle.lard_law_settles.proofs.KnownSmall.{IsSmall, RowSmall, StageSmall}
 use Rattle.lard_message.specs.declared.message.Body.TheVariants as body
 use Rattle.lard_law_progress.proofs.Given.{IsNewOffer, Known}
 
 -- What the law of what is kept, and the laws of ways, give beside: where the front end placed it, there is a request; a node to which an
--- Offer comes new keeps nothing of the connection; only nodes that are there have rows; and none gives one back.
-pub record Beside (nodes : ℕ) (w : Whole) (x : Conn) : Type 0 where
+-- Offer comes new keeps nothing of the connection; only nodes that are there have rows; and none refuses one, or gives one back.
+pub record Beside (set : Setting) (w : Whole) (x : Conn) : Type 0 where
+  pub leaves : (n : ℕ) → w.leaving n ≡ set.leaving n
+  pub stays : (n : ℕ) → set.leaving n ≡ false  -- INTERIM: no node leaves yet
   pub asks : (row : FrontRow) → x.part.front.row ≡ Some row → IsPlacing row.stage → 1 ≤ w.requests
   pub idle : (n e : ℕ) → offer_answer e (x.part.nodes n).row ≡ New → ((x.part.nodes n).kept ≡ []) × ((x.part.nodes n).fetches ≡ [])
-  pub there : (n : ℕ) (row : BackRow) → (x.part.nodes n).row ≡ Some row → (1 ≤ n) × (n ≤ nodes)
+  pub there : (n : ℕ) (row : BackRow) → (x.part.nodes n).row ≡ Some row → (1 ≤ n) × (n ≤ set.nodes)
   pub keeps : FrontKeeps x.c x.part.front
   pub small : IsSmall x.part.front
+  pub unrefused : IsUnrefused x
   pub ungiven : IsUngiven x
 
 -- two Offers of the same bytes count as many responses
@@ -44,7 +48,7 @@ served-same c e d p q same a b =
     sym (from_be_bytes-to_be_bytes_4 p.served a) ∙ ap (from_be_bytes w32) bytes ∙ from_be_bytes-to_be_bytes_4 q.served b
 
 module _ (files : FilesAt) (x : Conn) (st : Station) (k : Talk) (pend : List Verdict) (o : IsOpen files x k pend st) (acts : OpenActs x st) (stream : ℕ) (counts : CountsWhatWasServed stream x) (placed : IsPlaced x)
-    (number : IsConnNumber x.c) (w : Whole) (is : w ≡ whole_of files k.w.bytes) (nodes : ℕ) (beside : Beside nodes w x) where
+    (number : IsConnNumber x.c) (w : Whole) (is : w ≡ whole_of files w.leaving k.w.bytes) (set : Setting) (beside : Beside set w x) where
   is-stream : IsStream k.w
   is-stream =
       let s = o.client.speaks in
@@ -99,7 +103,7 @@ module _ (files : FilesAt) (x : Conn) (st : Station) (k : Talk) (pend : List Ver
 
     read : parts ≡ parts_of offering.block offering.count
     read =
-        let small : at.row.epoch.0 < 2 ^ 16 = let early = early-at x placed at.row at.front (stage.Offering n (record { 0 = e })) at.with_ in omega (arith, early) in
+        let small : at.row.epoch.0 < 2 ^ 16 = let early = early-at x placed at.row at.front in omega (arith, early) in
         offers-read x.c at.row.epoch.0 k.w k.out k.vs pend offering.block offering.count number small is-stream offering.holds offering.frozen
         (record { c = x.c; epoch = record { 0 = e }; body = body.Offer parts }) parts
         (subst (λ (bs : List ℕ). decoded_message bs ≡ Ok (record { c = x.c; epoch = record { 0 = e }; body = body.Offer parts })) its-bytes spells) refl
@@ -134,7 +138,7 @@ module _ (files : FilesAt) (x : Conn) (st : Station) (k : Talk) (pend : List Ver
           row = at.row;
           front = at.front;
           with_ = at.with_;
-          unrefused = ap (is_this_epoch e) (placed.unrefused n);
+          unrefused = ap (is_this_epoch e) (beside.unrefused n);
           unreturned = beside.ungiven n;
           kept = free.0;
           fetches = free.1;
@@ -144,16 +148,18 @@ module _ (files : FilesAt) (x : Conn) (st : Station) (k : Talk) (pend : List Ver
 
   -- ---- all of it
 
-  pub known : Known nodes w x st
+  pub known : Known set w x st
   known = record {
+    leaves = beside.leaves;
     said = client-said files x.c st k o.client o.says w is;
     heard = client-took files x.c st k o.client o.says w is;
     seat = seat-knows files x st k pend o acts stream counts w is beside.asks;
-    fresh = sits-fresh (owning (tale_at x)) x.part.nodes placed.unrefused x.part.front.row placed.sits;
+    fresh = sits-fresh (owning (tale_at x)) x.part.nodes beside.unrefused x.part.front.row placed.sits;
     homes = λ n e b at. sits-at (owning (tale_at x)) x.part.front x.part.nodes placed.sits n e b at;
     unreturned = λ n e b at. beside.ungiven n;
     there = beside.there;
     offers = new-offer;
+    unseen = λ n e parts bytes spells was leaving new. absurd (both_ways (set.leaving n) (beside.stays n) leaving);
     ends = λ n e why snd rcv count bytes spells was row at t.
         sits-gone (owning (tale_at x)) x.part n e beside.ungiven
         (came-says x (Node n) Front e (body.Ended why snd rcv count) bytes placed.letters was spells) row at placed.sits t;

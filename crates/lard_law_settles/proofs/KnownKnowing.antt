@@ -27,7 +27,7 @@ IsPlacing (stage.Moved n e) = Unit {0}
 IsPlacing _ = ⊥
 
 module _ (files : FilesAt) (x : Conn) (st : Station) (k : Talk) (pend : List Verdict) (o : IsOpen files x k pend st) (acts : OpenActs x st) (stream : ℕ) (counts : CountsWhatWasServed stream x)
-    (w : Whole) (is : w ≡ whole_of files k.w.bytes) (asks : (row : FrontRow) → x.part.front.row ≡ Some row → IsPlacing row.stage → 1 ≤ w.requests) where
+    (w : Whole) (is : w ≡ whole_of files w.leaving k.w.bytes) (asks : (row : FrontRow) → x.part.front.row ≡ Some row → IsPlacing row.stage → 1 ≤ w.requests) where
   abbrev Here_ : SeatNow → Type 0
   Here_ z = SeatKnown w st.client z
 

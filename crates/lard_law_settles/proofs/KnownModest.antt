@@ -4,7 +4,7 @@ use Rattle.std.proofs.lemmas.Bool.{both_ways, cases_eq, cond_both, eq-eqb}
 use Rattle.lard_law_view.specs.Prelude.{BackConn, BackRow, Conn, Entry, Epoch, FilesAt, FrontConn, FrontRow, Kept, NodePart, Progress, Station, Stay, front_rest}
 use Rattle.lard_bound.specs.Seats.{SeatNow, seat_decided, seat_in, seat_of, seat_over, seat_over_by, seat_there, seat_untaken, stay_of, telling, tells_end}
 use Rattle.lard_bound.specs.Units.{Whole, batch_left, progress_left, tellers}
-use Rattle.lard_laws.specs.Past.{AtFront, AtNode, DecidedIn, EndsAreOfStays, EpochsAreOfOneNode, IsOfStay, Over, RowTells, StageTells, stage_whereabouts, whereabouts, whereabouts_of}
+use Rattle.lard_law_connections.specs.Past.{AtFront, AtNode, DecidedIn, EndsAreOfStays, EpochsAreOfOneNode, IsOfStay, Over, RowTells, StageTells, stage_whereabouts, whereabouts, whereabouts_of}
 use Rattle.lard_law_connections.specs.Kept.{AsksFor, HereKeeps, IsKeptByStage, NodeRowKeeps, NodeStageKeeps, contents_awaited, awaits_content}
 use Rattle.lard_handoff_back.specs.declared.row.BackConn.TheVariants as back
 use Rattle.lard_handoff_front.specs.declared.row.FrontConn.TheVariants as stage

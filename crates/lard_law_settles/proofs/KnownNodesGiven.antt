@@ -3,7 +3,7 @@
 use Rattle.std.proofs.Common.{◌≡◌, ◌≤◌, ◌==◌, ◌&&◌, nat_eq, nat_lt, ℕ, Bool, true, false, cond, List, [], ◌∷◌, length, Option, Some, None, Ok, refl, sym, ap, ◌∙◌, subst, arith}
 use Rattle.std.specs.Prelude.{All}
 use Rattle.std.proofs.lemmas.Bool.{both_ways, cond_both, eq-eqb, le-ltb, ne_eqb, and_from, or_from}
-use Rattle.lard_law_view.specs.Prelude.{AreBytes, BackConn, BackRow, Config, Conn, ControlBlock, Event, FilesAt, Front, FrontConn, FrontRow, Has, IsReached, Letter, MAX_STREAM_BYTES, Machine, Node, NodePart, Packet, Passes, Said, Setting, SpellsMessage, Station, Stay, ToCluster, Verdict, Was, config_check, conn, conn_of, decoded, file_at, front_rest, is_no_node, is_row_at, is_with, letter_of, letters, letters_in, machine_start, one_of, setting, tale_at, verdicts, which_leave, with_leaving}
+use Rattle.lard_law_view.specs.Prelude.{AreBytes, BackConn, BackRow, Config, Conn, ControlBlock, Event, FilesAt, Front, FrontConn, FrontRow, Has, IsReached, Letter, Machine, Node, NodePart, Packet, Passes, Said, Setting, SpellsMessage, Station, Stay, ToCluster, Verdict, Was, config_check, conn, conn_of, decoded, file_at, front_rest, is_no_node, is_row_at, is_with, letter_of, letters, letters_in, machine_start, one_of, setting, tale_at, verdicts, which_leave, with_leaving}
 use Rattle.lard_answers.proofs.Growing.{verdicts-nothing}
 use Rattle.lard_bound.specs.Seats.{Held, Here, Offered, Over, SeatNow, Unborn, Waiting, seat_away, seat_decided, seat_in, seat_of, seat_there, seat_untaken, staying_of}
 use Rattle.lard_laws.specs.BackingRequests.{IsFor}
@@ -11,8 +11,8 @@ use Rattle.lard_laws.specs.BackingState.{LetterFor, SaysFor}
 use Rattle.lard_laws.proofs.BackingRules.{each-backed}
 use Rattle.lard_law_connections.specs.BytesAgreement.{ConnAgrees, IsInner, IsConnUnopened}
 use Rattle.lard_law_connections.proofs.BytesRuns.{states-truthful}
-use Rattle.lard_laws.proofs.PastClosed.{connections-go-to-new}
-use Rattle.lard_laws.specs.Past.{GoesToNew, IsNewTo, NewAt, stage_whereabouts, whereabouts}
+use Rattle.lard_law_connections.proofs.PastClosed.{connections-go-to-new}
+use Rattle.lard_law_connections.specs.Past.{GoesToNew, IsNewTo, NewAt, stage_whereabouts, whereabouts}
 use Rattle.lard_law_connections.specs.Kept.{HereKeeps, NodeRowKeeps, NodeStageKeeps}
 use Rattle.lard_law_connections.specs.KeptLaws.{AnyNode}
 use Rattle.lard_law_connections.proofs.KeptRuns.{connections-are-kept}
@@ -33,7 +33,7 @@ use Rattle.lard_handoff_front.specs.declared.row.FrontConn.TheVariants as stage
 use Rattle.lard_history.proofs.Each.{Each, Each-append, Each-weaker}
 use Rattle.lard_law_settles.proofs.KnownAsking.{some-got}
 use Rattle.lard_law_settles.proofs.KnownRuns.{each-known, node-there, view, written_on}
-use Rattle.lard_law_settles.proofs.KnownReturns.{each-ungiven, never-refused}
+use Rattle.lard_law_settles.proofs.KnownReturns.{each-ungiven, each-unrefused, never-refused}
 use Rattle.lard_law_settles.proofs.KnownSitting.{said-offered, sits-at}
 use Rattle.lard_law_view.proofs.ByteLists.{all-each, bytes-index, each-all}
 use Rattle.lard_message.specs.declared.message.Body.TheVariants as body
@@ -130,7 +130,7 @@ module _ (N : ℕ → Type 0) (x : Conn) (files : FilesAt) (c n e count : ℕ) w
 
 -- ---- every run
 
-module _ (config : Config) (files : List (List ℕ × List ℕ)) (small : config.stream ≤ MAX_STREAM_BYTES) (checked : config_check config ≡ Ok tt) (named : All IsRunFile files)
+module _ (config : Config) (files : List (List ℕ × List ℕ)) (checked : config_check config ≡ Ok tt) (named : All IsRunFile files)
     (es : List Event) (given : All IsScheduled es) (m : Machine) (past : Passes (machine_start config files) es m) (same : m.config ≡ config) (q : ℕ) where
   abbrev reached : IsReached config files m
   reached = (es, past)
@@ -151,7 +151,7 @@ module _ (config : Config) (files : List (List ℕ × List ℕ)) (small : config
     by-opened never = go x.part.station refl where
       go : (o : Option Station) → x.part.station ≡ o → (st : Station) × (x.part.station ≡ Some st)
       go None at =
-          let truth = states-truthful config files small m reached q free in
+          let truth = states-truthful config files checked m reached q free in
           let u : IsConnUnopened x = subst (ConnAgrees (file_at files) x truth.talk truth.pend) at truth.agrees in
           absurd (never u)
       go (Some st) at = (st, at)
@@ -161,14 +161,14 @@ module _ (config : Config) (files : List (List ℕ × List ℕ)) (small : config
 
     pub held-opened : (n e : ℕ) (b : ControlBlock) → HasIt x n e b → (st : Station) × (x.part.station ≡ Some st)
     held-opened n e b has = by-opened (λ u.
-        let sits : Sits (owning (tale_at x)) x.part.nodes None = subst (Sits (owning (tale_at x)) x.part.nodes) u.front (each-placed config files m reached q).sits in
+        let sits : Sits (owning (tale_at x)) x.part.nodes None = subst (Sits (owning (tale_at x)) x.part.nodes) u.front (each-placed config files checked m reached q).sits in
         let past : IsPast 0 (Some (record { stage = back.Here b; epoch = record { 0 = e } })) = subst (IsPast 0) has (sits.1 n) in
         past.1)
 
     pub fetch-opened : (i n e r : ℕ) (path bytes : List ℕ) → SpellsMessage x.c e (body.Fetch r path) bytes → Was x (Node i) (Node n) bytes → (st : Station) × (x.part.station ≡ Some st)
     fetch-opened i n e r path bytes spells was = by-opened (λ u.
         let letter : Letter = record { from = Node i; to = Node n; bytes = bytes } in
-        let says : SaysFor (file_at files) (marks_at x).wrote (Node i) (Node n) bytes = has-each (LetterFor (file_at files) (marks_at x).wrote) letter x.letters was ((each-backed config files small m reached q).0 free) in
+        let says : SaysFor (file_at files) (marks_at x).wrote (Node i) (Node n) bytes = has-each (LetterFor (file_at files) (marks_at x).wrote) letter x.letters was ((each-backed config files checked m reached q).0 free) in
         let known = says (record { c = x.c; epoch = record { 0 = e }; body = body.Fetch r path }) spells in
         let none : IsFor (file_at files) [] r path = subst (λ (bytes : List ℕ). IsFor (file_at files) bytes r path) u.wrote known.0 in
         let some = some-got (verdicts []) none.before none.verdict none.is in
@@ -187,9 +187,9 @@ module _ (config : Config) (files : List (List ℕ × List ℕ)) (small : config
     pub node-given : ((st : Station) (n e : ℕ) (b : ControlBlock) → x.part.station ≡ Some st → HasIt x n e b → IsTalking st b)
         → ((st : Station) (n e : ℕ) (b : ControlBlock) (segment bytes : List ℕ) (s : Said) → x.part.station ≡ Some st → HasIt x n e b → SpellsMessage x.c e (body.Forward segment) bytes → Was x Front (Node n) bytes
         → decoded segment x.c ToCluster ≡ Ok s → IsForwarded st b s)
-        → NodeGiven k (written_on config files small m reached q) x
+        → NodeGiven k (written_on config files checked m reached q) x
     node-given talks words =
-        let placed = each-placed config files m reached q in record {
+        let placed = each-placed config files checked m reached q in let unrefused = each-unrefused config files m reached q in record {
           opened = front-opened;
           fetched = fetch-opened;
           held = held-opened;
@@ -197,19 +197,20 @@ module _ (config : Config) (files : List (List ℕ × List ℕ)) (small : config
           files = λ path file is. (file-kept files path file (each-all files_of.IsFile files (Each-weaker IsRunFile files_of.IsFile (λ f h. h.0) files (all-each IsRunFile files named))) is).1;
           homes = λ n e b has. let h = sits-at (owning (tale_at x)) x.part.front x.part.nodes placed.sits n e b has in (h.told, h.row, h.front, h.with_);
           stays = stays;
-          unrefused = never-refused x.part placed.unrefused (each-ungiven config files m reached q);
           news = λ n e parts bytes spells was new. let h = said-offered x.part.front n e (x.part.nodes n).row new
               (offer-says x placed n e parts bytes was spells) in
-              (h.row, h.front, h.with_, ap (is_this_epoch e) (placed.unrefused n));
-          fresh = λ n e count eq. (offered n e count eq).none;
+              (h.row, h.front, h.with_, ap (is_this_epoch e) (unrefused n));
+          fresh = λ n e count eq. ((offered n e count eq).none, unrefused n);
+          once = λ n row is. unrefused n;
           few = λ told n e b s eq.
               let o = by-opened (λ u. let bad : Unborn ≡ Here told n e b s = sym (seat-none x.part u.front) ∙ eq in cc) in
-              let h : SeatKnown (written_on config files small m reached q) o.0.client (Here told n e b s) = subst (SeatKnown (written_on config files small m reached q) o.0.client) eq (each-known config files small m reached q free o.0 o.1).seat in
+              let h : SeatKnown (written_on config files checked m reached q) o.0.client (Here told n e b s) = subst (SeatKnown (written_on config files checked m reached q) o.0.client) eq (each-known config files checked m reached q free o.0 o.1).seat in
               h.1;
           talks = talks;
           words = words;
-          there = λ n row is. let t = node-there m (view config files small m reached q) q n row is in in-range config.nodes n t.0 (omega (arith, t.1, same_nodes));
+          there = λ n row is. let t = node-there m (view config files checked m reached q) q n row is in in-range config.nodes n t.0 (omega (arith, t.1, same_nodes));
           placed = λ n e count eq. let t = each-with config files checked m reached q n e (offered n e count eq).is_there in in-range config.nodes n t.0 t.1;
+          declined = λ n e count eq. absurd (never-refused x.part unrefused (each-ungiven config files m reached q) n e count eq);
         }
       where
         same_nodes : m.config.nodes ≡ config.nodes

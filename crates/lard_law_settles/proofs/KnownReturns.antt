@@ -1,104 +1,27 @@
 -- INTERIM: no connection comes back: no node refuses one, or gives one back.
-use Rattle.std.proofs.Common.{◌≡◌, ◌==◌, ℕ, Bool, true, false, cond, List, [], Option, Some, None, refl, sym, ◌∙◌, subst}
-use Rattle.std.proofs.lemmas.Bool.{cond_both}
-use Rattle.lard_law_view.specs.Prelude.{BackConn, BackRow, ClientRules, Config, Conn, Ending, Epoch, FrontConn, FrontDeed, FrontRow, FrontRules, IsLaw, MayRestOn, Move, NodeDeed, NodeEnv, NodePart, NodeRules, OfEach, Part, Place, Rules, Seen, Setting, Work, after_timer, came_for, come_progress, front_does, front_rest, front_rule, goes_on, grown, kept_after, node_begins, node_does, node_rule, on_segment, read_progress, reads_batch, serving, serving_ready_of, serving_settled, setting, spoken, state_of, tagged, taken_sent, timed, with_leaving, with_work, without, work_of}
-use Rattle.lard_base.specs.declared.place.TimerKind.TheVariants as kind
-use Rattle.lard_bound.specs.Seats.{Offered, Refused, Returned, SeatNow, seat_away, seat_decided, seat_in, seat_of, seat_over, seat_over_by, seat_there, seat_untaken}
+use Rattle.std.proofs.Common.{◌≡◌, ◌==◌, ℕ, Bool, true, false, cond, List, Option, Some, None, refl, sym, ap, ◌∙◌, subst}
+use Rattle.std.proofs.lemmas.Bool.{both_ways, cond_both}
+use Rattle.lard_law_view.specs.Prelude.{BackConn, BackRow, Config, Conn, Epoch, FrontConn, FrontRow, NodePart, OfEach, Part, front_rest}
+use Rattle.lard_bound.specs.Seats.{Offered, Refused, Returned, SeatNow, seat_away, seat_decided, seat_in, seat_of, seat_over, seat_over_by, seat_there, seat_untaken, telling_by, tells_end, tells_over}
 use Rattle.lard_handoff_back.specs.declared.row.BackConn.TheVariants as back
 use Rattle.lard_handoff_back.specs.Leaving.{is_this_epoch}
 use Rattle.lard_handoff_front.specs.declared.row.FrontConn.TheVariants as stage
-use Rattle.lard_law_view.proofs.Carried.{carried}
-use Rattle.lard_law_view.proofs.EachClient.{each-client}
-use Rattle.lard_law_view.proofs.EachFront.{each-front}
-use Rattle.lard_law_view.proofs.EachNode.{each-node}
-use Rattle.lard_law_view.proofs.Guarded.{weaker}
-use Rattle.lard_law_view.proofs.Parts.{put-each}
-use Rattle.lard_rules.proofs.NodeCases.{KeptByNode, node-keeps}
-use Rattle.lard_rules.specs.Front as front
-use Rattle.lard_rules.specs.Node.{Drops, Says, Does}
-use Rattle.lard_rules.specs.declared.places.Ending.TheVariants as ending
+use Rattle.lard_law_connections.proofs.LeaversRuns.{each-unreturned}
 use Rattle.lard_law_progress.proofs.AnswersFrontSpots.{seat-row}
 
--- ---- no node gives a connection back
+-- ---- no node refuses a connection, or gives one back: only a node that leaves does
+
+abbrev pub IsUnrefused : Conn → Type 0
+IsUnrefused x = (n : ℕ) → (x.part.nodes n).beside.refused ≡ None
 
 abbrev pub IsUngiven : Conn → Type 0
 IsUngiven x = (n : ℕ) → (x.part.nodes n).beside.returned ≡ None
 
-abbrev StaysUngiven : Conn → Move → Type 0
-StaysUngiven x v = IsUngiven x → IsUngiven (grown x v)
-
-module _ (env : NodeEnv) (p : NodePart) where
-  abbrev Leaves : NodeDeed → Type 0
-  Leaves Drops = Unit {0}
-  Leaves (Says messages) = Unit {0}
-  Leaves (Does given) = given.0.beside.returned ≡ p.beside.returned
-
-  after-leaves : (q : NodePart) → q.beside.returned ≡ p.beside.returned → (w : Work) (e : Ending) → (kept_after env q w e).beside.returned ≡ p.beside.returned
-  after-leaves q same w (ending.Here b count) = same
-  after-leaves q same w (ending.Over last) = same
-
-  works : (q : NodePart) → q.beside.returned ≡ p.beside.returned → (before : List (Place × List ℕ)) (w : Work) → Leaves (with_work env q before w)
-  works q same before w = after-leaves q same w (serving_settled env.serve w.service).0
-
-  rules : KeptByNode env p (λ g. Unit {0}) Leaves
-  rules = record {
-    drops = tt;
-    hears = λ said b s m at. works p refl [] (goes_on env (work_of (on_segment b said).1 s));
-    tags = λ number tags b s m at asked same count. works (record p { kept = without kind.Ask 0 p.kept }) refl []
-        (goes_on env (tagged env tags (work_of b s)));
-    comes = λ from r b s m at wanted. works (record p { fetches = without kind.Fetch r p.fetches }) refl []
-        (goes_on env (came_for (come_progress from) r (work_of b s)));
-    reads = λ r path b s m at. works p refl [] (goes_on env (came_for read_progress r (work_of b s)));
-    begins = λ parts m new. works p refl (taken_sent env) (goes_on env (state_of (reads_batch env true (node_begins env parts))));
-    takes_again = λ parts m again. tt;
-    fires = λ b s m at. after-leaves p refl (work_of (after_timer b) s)
-        (spoken env.serve (serving (after_timer b) s.served []) (serving_ready_of env.serve (after_timer b) (timed b))).0;
-    resends = λ m none. tt;
-    ends = λ m awaited. refl;
-  }
-
-front-move : (x : Conn) (heads : List Seen) (d : FrontDeed) → StaysUngiven x (front_does x heads d)
-front-move x heads front.Drops h = h
-front-move x heads (front.Says turn) h = h
-front-move x heads (front.Does did) h = h
-
-node-move : (x : Conn) (n : ℕ) (env : NodeEnv) (heads : List Seen) (d : NodeDeed) → Leaves env (x.part.nodes n) d → StaysUngiven x (node_does x n heads d)
-node-move x n env heads Drops same h = h
-node-move x n env heads (Says messages) same h = h
-node-move x n env heads (Does given) same h = put-each x.part.nodes n given.0 (λ m q. q.beside.returned ≡ None) (same ∙ h n) (λ m other. h m)
-
-abbrev Anything : Conn → Type 0
-Anything x = Unit {0}
-
-module _ (k : Setting) where
-  clients : ClientRules k StaysUngiven
-  clients = each-client k StaysUngiven (record { opens = λ x isn iss wnd mss rule none h. h; does = λ x s g there comes h. h })
-
-  fronts : FrontRules k StaysUngiven
-  fronts = each-front k StaysUngiven (λ x env heads g is comes h. front-move x heads (front_rule env x.part.front g) h)
-
-  nodes : NodeRules k StaysUngiven
-  nodes = each-node k StaysUngiven (record {
-    does = λ x n epoch env heads g is at comes. node-move x n env heads (node_rule env (x.part.nodes n) g)
-        (node-keeps env (x.part.nodes n) (λ g. Unit {0}) (Leaves env (x.part.nodes n)) (rules env (x.part.nodes n)) g at tt);
-    aside = λ x n a may h. h;
-  })
-
-  stay-ungiven : Rules k StaysUngiven
-  stay-ungiven = record {
-    untouched = record { client = clients; front = fronts; node = nodes; ignores = λ x from to bytes was h. h };
-    injects = λ x s bytes there rule h. h;
-  }
-
-  ungiven-law : IsLaw k Anything IsUngiven
-  ungiven-law = record {
-    begins = λ c n. refl;
-    moves = weaker k StaysUngiven (λ x v. MayRestOn Anything x → IsUngiven x → IsUngiven (grown x v))
-        (λ x v h m. h) stay-ungiven;
-  }
+pub each-unrefused : (config : Config) (files : List (List ℕ × List ℕ)) → OfEach config files IsUnrefused
+each-unrefused config files m reached q = (each-unreturned config files m reached q).unrefused
 
 pub each-ungiven : (config : Config) (files : List (List ℕ × List ℕ)) → OfEach config files IsUngiven
-each-ungiven config files = carried config files Anything IsUngiven (λ l. ungiven-law (with_leaving (setting config files) l)) (λ m r q. tt)
+each-ungiven config files m reached q = (each-unreturned config files m reached q).ungiven
 
 -- ---- so no connection is where one comes back from
 
@@ -149,3 +72,9 @@ module _ (p : Part) (unrefused : (n : ℕ) → (p.nodes n).beside.refused ≡ No
 
   pub never-given : (told : Bool) (n e served : ℕ) → seat_of p ≡ Returned told n e served → ⊥
   never-given told n e served is = subst IsNoReturn is seat-stays
+
+  pub never-told : (n i : ℕ) → tells_over (p.nodes n) ≡ Some (i, true) → ⊥
+  never-told n i is = go (tells_end (p.nodes n).row) (sym (ap (telling_by (tells_end (p.nodes n).row)) (ungiven n)) ∙ is) where
+    go : (o : Option ℕ) → telling_by o None ≡ Some (i, true) → ⊥
+    go None f = let bad : ◌≡◌ {A = Option (ℕ × Bool)} None (Some (i, true)) = f in cc
+    go (Some e) f = let both : ◌≡◌ {A = ℕ × Bool} (e, false) (i, true) = cc in both_ways false refl (ap (λ p. p.1) both)

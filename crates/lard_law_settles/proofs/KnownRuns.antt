@@ -1,14 +1,15 @@
 -- In every state that events lead to, all that is known of a connection that the schedule did not touch is so.
-use Rattle.std.proofs.Common.{◌≡◌, ◌≤◌, ℕ, zero, suc, false, List, [], ◌∷◌, length, Option, Some, None, ⊎_elim, refl, sym, ap, ◌∙◌, subst, arith}
+use Rattle.std.proofs.Common.{◌≡◌, ◌≤◌, ℕ, zero, suc, false, List, [], ◌∷◌, length, Option, Some, None, ⊎_elim, refl, sym, ap, ◌∙◌, subst, arith, Ok}
 use Rattle.std.specs.Prelude.{slice_get}
-use Rattle.lard_law_view.specs.Prelude.{BackRow, Config, Conn, IsConnNumber, IsConnSound, IsReached, IsViewed, MAX_STREAM_BYTES, Machine, NodeState, Station, blank_conn, conn, file_at, kept_at, node_at, part_of, tale_at}
+use Rattle.lard_law_view.specs.Prelude.{BackRow, Config, Conn, IsConnNumber, IsConnSound, IsReached, IsViewed, Machine, NodeState, Station, blank_conn, config_check, conn, file_at, kept_at, node_at, part_of, setting_of, tale_at, which_leave}
 use Rattle.lard_bound.specs.Seats.{seat_of}
 use Rattle.lard_bound.specs.Units.{Whole, tellers, whole_of}
 pub use Rattle.lard_laws.specs.Acks.{OpenActs, StationActs, story_at}
 pub use Rattle.lard_laws.proofs.AcksRuns.{connections-ack}
+use Rattle.lard_law_connections.proofs.LeaversStays.{none-leaves}
 use Rattle.lard_law_connections.specs.BytesAgreement.{ConnAgrees, IsOpen}
 use Rattle.lard_law_connections.proofs.BytesRuns.{states-truthful}
-use Rattle.lard_laws.proofs.PastRuns.{each-end-is-of-its-stay, each-epoch-is-of-one-node}
+use Rattle.lard_law_connections.proofs.PastRuns.{each-end-is-of-its-stay, each-epoch-is-of-one-node}
 use Rattle.lard_law_connections.specs.KeptLaws.{AnyNode}
 use Rattle.lard_law_connections.proofs.KeptRuns.{connections-are-kept}
 use Rattle.lard_law_connections.proofs.LimitsRuns.{connections-counted}
@@ -18,7 +19,7 @@ use Rattle.lard_law_view.proofs.Carried.{reached-viewed}
 use Rattle.lard_law_settles.proofs.KnownAsking.{new-idle, placing-asks}
 use Rattle.lard_law_settles.proofs.KnownGiving.{known}
 use Rattle.lard_law_settles.proofs.KnownModest.{modest}
-use Rattle.lard_law_settles.proofs.KnownReturns.{each-ungiven}
+use Rattle.lard_law_settles.proofs.KnownReturns.{each-ungiven, each-unrefused}
 use Rattle.lard_law_settles.proofs.KnownSmall.{each-small}
 use Rattle.lard_law_progress.proofs.Given.{Known}
 use Rattle.lard_law_progress.proofs.Most.{IsModest}
@@ -47,7 +48,7 @@ number-of x st sound at = ⊎_elim
     (λ (none : x ≡ blank_conn x.c). absurd (let bad : ◌≡◌ {A = Option Station} (Some st) None = sym at ∙ ap (λ (y : Conn). y.part.station) none in cc))
     sound.number
 
-module _ (config : Config) (files : List (List ℕ × List ℕ)) (small : config.stream ≤ MAX_STREAM_BYTES) (m : Machine) (reached : IsReached config files m) (q : ℕ) where
+module _ (config : Config) (files : List (List ℕ × List ℕ)) (checked : config_check config ≡ Ok tt) (m : Machine) (reached : IsReached config files m) (q : ℕ) where
   abbrev x : Conn
   x = conn m q
 
@@ -55,34 +56,37 @@ module _ (config : Config) (files : List (List ℕ × List ℕ)) (small : config
   view = reached-viewed config files m reached
 
   abbrev pub written_on : Whole
-  written_on = whole_of (file_at files) (tale_at x).wrote
+  written_on = whole_of (file_at files) (which_leave m) (tale_at x).wrote
 
-  pub each-known : (tale_at x).touched ≡ false → (st : Station) → x.part.station ≡ Some st → Known m.config.nodes written_on x st
+  pub each-known : (tale_at x).touched ≡ false → (st : Station) → x.part.station ≡ Some st → Known (setting_of m) written_on x st
   each-known free st at =
-      let truth = states-truthful config files small m reached q free in
+      let truth = states-truthful config files checked m reached q free in
       let o : IsOpen (file_at files) x truth.talk truth.pend st = subst (ConnAgrees (file_at files) x truth.talk truth.pend) at truth.agrees in
-      let acts : OpenActs x st = subst (StationActs x) at (connections-ack config files small m reached q free) in
-      let way = (each-guarded config files small m reached q).0 free in
+      let acts : OpenActs x st = subst (StationActs x) at (connections-ack config files checked m reached q free) in
+      let way = (each-guarded config files checked m reached q).0 free in
       let kept = connections-are-kept config files m reached q in
-      let same : written_on ≡ whole_of (file_at files) truth.talk.w.bytes = ap (whole_of (file_at files)) o.tale.wrote in
-      known (file_at files) x st truth.talk truth.pend o acts config.stream (connections-counted config files small m reached q) (each-placed config files m reached q) (number-of x st (view.sound q) at) written_on same m.config.nodes
+      let same : written_on ≡ whole_of (file_at files) (which_leave m) truth.talk.w.bytes = ap (whole_of (file_at files) (which_leave m)) o.tale.wrote in
+      known (file_at files) x st truth.talk truth.pend o acts config.stream (connections-counted config files checked m reached q) (each-placed config files checked m reached q) (number-of x st (view.sound q) at) written_on same (setting_of m)
       (record {
+        leaves = λ n. refl;
+        stays = none-leaves m view;
         asks = placing-asks (file_at files) x st truth.talk truth.pend o way kept.front written_on same;
         idle = λ n e new. new-idle AnyNode (file_at files) x.c n e (x.part.nodes n) (kept.nodes n) new;
         there = node-there m view q;
         keeps = kept.front;
-        small = each-small config files small m reached q free;
+        small = each-small config files checked m reached q free;
+        unrefused = each-unrefused config files m reached q;
         ungiven = each-ungiven config files m reached q;
       })
 
   -- so what is left to do on it is bounded
   pub each-modest : (tale_at x).touched ≡ false → (st : Station) → x.part.station ≡ Some st → IsModest written_on (tellers x.part.nodes m.config.nodes) (seat_of x.part)
   each-modest free st at =
-      let truth = states-truthful config files small m reached q free in
+      let truth = states-truthful config files checked m reached q free in
       let o : IsOpen (file_at files) x truth.talk truth.pend st = subst (ConnAgrees (file_at files) x truth.talk truth.pend) at truth.agrees in
       let kept = connections-are-kept config files m reached q in
-      let same : written_on ≡ whole_of (file_at files) truth.talk.w.bytes = ap (whole_of (file_at files)) o.tale.wrote in
+      let same : written_on ≡ whole_of (file_at files) (which_leave m) truth.talk.w.bytes = ap (whole_of (file_at files) (which_leave m)) o.tale.wrote in
       modest written_on AnyNode (file_at files) x st m.config.nodes (each-ungiven config files m reached q)
-      (each-end-is-of-its-stay config files m reached q) (each-epoch-is-of-one-node config files m reached q) kept
-      (placing-asks (file_at files) x st truth.talk truth.pend o ((each-guarded config files small m reached q).0 free) kept.front written_on same)
+      (each-end-is-of-its-stay config files checked m reached q) (each-epoch-is-of-one-node config files checked m reached q) kept
+      (placing-asks (file_at files) x st truth.talk truth.pend o ((each-guarded config files checked m reached q).0 free) kept.front written_on same)
       (each-known free st at).seat

@@ -1,7 +1,7 @@
 -- Wherever its endpoint is, it talks with the client: by the laws of every run, of a connection whose client wrote little.
 use Rattle.std.proofs.Common.{◌≡◌, ◌≤◌, ◌==◌, ℕ, Bool, true, false, List, [], length, Option, Some, None, ⊎_elim, refl, sym, ◌∙◌, subst}
 use Rattle.std.proofs.lemmas.Bool.{both_ways, cond_both, eqb-true}
-use Rattle.lard_law_view.specs.Prelude.{BackConn, BackRow, Conn, ControlBlock, FilesAt, FrontConn, FrontRow, Part, Station, Stay, Talk, front_rest, may_freeze, tale_at}
+use Rattle.lard_law_view.specs.Prelude.{BackConn, BackRow, Conn, ControlBlock, FilesAt, FrontConn, FrontRow, Part, Setting, Station, Stay, Talk, front_rest, may_freeze, tale_at}
 use Rattle.lard_bound.specs.Seats.{Held, Here, Over, SeatNow, Waiting, seat_away, seat_decided, seat_in, seat_of, seat_there, seat_untaken}
 use Rattle.lard_bound.specs.Units.{Whole}
 use Rattle.lard_laws.specs.Acks.{AcksWhatWasTaken, BackActs, EndActs, FrontActs, FrontStageActs, OpenActs, StationActs, bounds_of}
@@ -173,7 +173,7 @@ module _ (files : FilesAt) (stream : ℕ) (x : Conn) (st : Station) (at : x.part
 
   -- ---- in the forms of what is given
 
-  module _ (nodes : ℕ) (w : Whole) (known : Known nodes w x st) where
+  module _ (set : Setting) (w : Whole) (known : Known set w x st) where
     pub talks-there : (n e : ℕ) (b : ControlBlock) → HasIt x n e b → IsTalking st b
     talks-there n e b has = here-talks n e b has (known.homes n e b has)
 

@@ -1,7 +1,7 @@
 -- Of a connection that the front end offers to a node, it counts no more responses than a message has room for.
-use Rattle.std.proofs.Common.{◌≡◌, ◌≤◌, ◌<◌, ◌+◌, ◌^◌, ℕ, false, List, [], length, Option, Some, None, refl, sym, ◌∙◌, subst, arith}
+use Rattle.std.proofs.Common.{◌≡◌, ◌≤◌, ◌<◌, ◌+◌, ◌^◌, ℕ, false, List, [], length, Option, Some, None, refl, sym, ◌∙◌, subst, arith, Ok}
 use Rattle.std.proofs.lemmas.List.{length-drop}
-use Rattle.lard_law_view.specs.Prelude.{ClientRules, Config, Conn, ControlBlock, Ending, EndpointParts, FilesAt, FrontConn, FrontDeed, FrontEnv, FrontGets, FrontPart, FrontRest, FrontRow, FrontRules, IsConnNumber, IsControlBlock, IsUntouchedLaw, MAX_STREAM_BYTES, MayRestOn, Move, NodeRules, OfEach, Place, ReturnedBy, Said, Seen, ServeEnv, Service, Setting, Station, Talk, Untouched, Verdict, answered, back_part, back_rest, ended_at_fin, front_does, front_fired, front_reads, front_rest, front_rests, front_rule, given_sent, grown, node_does, on_segment, parts_of, returned_row, serving_consumed, serving_settled, setting, spoken, tale_at, with_leaving}
+use Rattle.lard_law_view.specs.Prelude.{ClientRules, Config, Conn, ControlBlock, Ending, EndpointParts, FilesAt, FrontConn, FrontDeed, FrontEnv, FrontGets, FrontPart, FrontRest, FrontRow, FrontRules, IsConnNumber, IsControlBlock, IsUntouchedLaw, MayRestOn, Move, NodeRules, OfEach, Place, ReturnedBy, Said, Seen, ServeEnv, Service, Setting, Station, Talk, Untouched, Verdict, answered, back_part, back_rest, config_check, ended_at_fin, front_does, front_fired, front_reads, front_rest, front_rests, front_rule, given_sent, grown, node_does, on_segment, parts_of, returned_row, serving_consumed, serving_settled, setting, spoken, tale_at, with_leaving}
 use Rattle.lard_base.specs.declared.place.Via.TheVariants.{Own}
 use Rattle.lard_law_connections.specs.BytesAgreement.{ConnAgrees, FrontHolds, IsTruthful, SeatAgrees, StageAgrees}
 use Rattle.lard_law_connections.proofs.BytesReturns.{refused-offering, refused-parts}
@@ -230,8 +230,8 @@ module _ (k : Setting) where
   small-law = record { begins = λ c. tt; moves = record { client = clients; front = fronts; node = nodes; ignores = λ x from to bytes h m free small. small } }
 
 -- So it is of each connection that the schedule did not touch, in every state that events lead to.
-pub each-small : (config : Config) (files : List (List ℕ × List ℕ)) → config.stream ≤ MAX_STREAM_BYTES → OfEach config files (Untouched (λ x. IsSmall x.part.front))
-each-small config files most =
+pub each-small : (config : Config) (files : List (List ℕ × List ℕ)) → config_check config ≡ Ok tt → OfEach config files (Untouched (λ x. IsSmall x.part.front))
+each-small config files checked =
     let k : Setting = setting config files in
     carried config files (Given k) (Untouched (λ x. IsSmall x.part.front)) (λ l. untouched-law (with_leaving k l) (Given k) (λ x. IsSmall x.part.front) (small-law (with_leaving k l)))
-    (λ m r q. (states-truthful config files most m r q, each-placed config files m r q))
+    (λ m r q. (states-truthful config files checked m r q, each-placed config files checked m r q))

@@ -5,8 +5,8 @@ use Rattle.std.proofs.lemmas.Bool.{cond_both, eqb-true}
 use Rattle.lard_law_view.specs.Prelude.{BackConn, BackRow, Conn, ControlBlock, Epoch, FilesAt, Final, FrontConn, FrontRow, NodePart, Part, Stay, front_rest, is_under}
 use Rattle.lard_base.specs.declared.place.TimerKind.TheVariants as kind
 use Rattle.lard_bound.specs.Seats as seat
-use Rattle.lard_bound.specs.Seats.{Here, Offered, SeatNow, Staying, Unborn, seat_away, seat_decided, seat_in, seat_of, seat_there, seat_untaken, stay_of, staying_of, tells_end, telling}
-use Rattle.lard_laws.specs.Past.{EndsAreOfStays, Over, RowTells, StageTells, stage_whereabouts, whereabouts, whereabouts_of}
+use Rattle.lard_bound.specs.Seats.{Here, Offered, SeatNow, Staying, Unborn, seat_away, seat_decided, seat_in, seat_of, seat_there, seat_untaken, stay_of, staying_of, telling, telling_by, tells_end, tells_over}
+use Rattle.lard_law_connections.specs.Past.{EndsAreOfStays, Over, RowTells, StageTells, stage_whereabouts, whereabouts, whereabouts_of}
 use Rattle.lard_law_connections.specs.Kept.{HereKeeps, NodeRowKeeps}
 use Rattle.lard_law_connections.specs.KeptLaws.{AnyNode}
 use Rattle.lard_laws.proofs.TagsAgree.{Agreed, asks-agree}
@@ -95,11 +95,16 @@ module _ (x : Conn) (ends : EndsAreOfStays x) where
     go back.Gone k f = absurd cc
 
   -- the front end knows of the end that a node tells
-  pub ended-given : (row : FrontRow) (last : Final) (n i : ℕ) → x.part.front.row ≡ Some row → seat_of x.part ≡ seat.Over last → tells_end (x.part.nodes n).row ≡ Some i → row.ended_by ≡ Some (record { 0 = i })
+  pub ended-given : (row : FrontRow) (last : Final) (n i : ℕ) → x.part.front.row ≡ Some row → seat_of x.part ≡ seat.Over last
+      → tells_over (x.part.nodes n) ≡ Some (i, false) → row.ended_by ≡ Some (record { 0 = i })
   ended-given row last n i is sits told = at row.stage refl (sym (seat-row x.part (Some row) is) ∙ sits) where
     away : (t : Bool) (m d count : ℕ) → seat_away t m d count (x.part.nodes m) ≡ seat.Over last → ⊥
     away t m d count = away-cases t m d count (x.part.nodes m) (λ (z : SeatNow). z ≡ seat.Over last → ⊥) (λ f. cc) (λ f. cc) (λ b f. cc) (λ f. cc)
         (λ served f. cc)
+
+    tells : (o r : Option ℕ) → telling_by o r ≡ Some (i, false) → o ≡ Some i
+    tells None r f = absurd (let bad : ◌≡◌ {A = Option (ℕ × Bool)} None (Some (i, false)) = f in cc)
+    tells (Some e) r f = let both : ◌≡◌ {A = ℕ × Bool} (e, is_some r) (i, false) = cc in ap (λ p. Some p.0) both
 
     at : (c : FrontConn) → row.stage ≡ c → seat_in x.part.front x.part.nodes c ≡ seat.Over last → row.ended_by ≡ Some (record { 0 = i })
     at (stage.Held b) staged f = absurd cc
@@ -109,4 +114,5 @@ module _ (x : Conn) (ends : EndsAreOfStays x) where
     at (stage.Moved m d) staged f = absurd (away true m d.0 (front_rest x.part.front.rest).count f)
     at (stage.Closed final) staged f =
         let over : whereabouts_of x ≡ Over row.ended_by = ap whereabouts is ∙ ap (stage_whereabouts row.ended_by) staged in
-        told-by n i row.ended_by (x.part.nodes n).row (subst (RowTells n (x.part.nodes n).row) over (ends n)) told
+        told-by n i row.ended_by (x.part.nodes n).row (subst (RowTells n (x.part.nodes n).row) over (ends n))
+        (tells (tells_end (x.part.nodes n).row) (x.part.nodes n).beside.returned told)

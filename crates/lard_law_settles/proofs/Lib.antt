@@ -2,7 +2,6 @@ pub mod SettlesEvents
 pub mod SettlesInside
 pub mod SettlesKeeping
 pub mod SettlesLate
-pub mod SettlesLeaving
 pub mod SettlesJobs
 pub mod SettlesPackets
 pub mod SettlesSeats

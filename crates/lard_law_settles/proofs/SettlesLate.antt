@@ -104,6 +104,8 @@ node-late : (x : Conn) (n epoch : ℕ) (env : NodeEnv) (heads : List Seen) (g : 
 node-late x n epoch env heads (node.Offered parts) comes = node-unheard x n heads _ Front (Node n) comes.bytes (λ never. never.0) comes.was
 node-late x n epoch env heads (node.Forwarded given) comes = node-unheard x n heads _ Front (Node n) comes.came.bytes (λ never. never.0) comes.came.was
 node-late x n epoch env heads node.Fires comes = λ may late none. absurd (some-none comes.station (sym comes.there ∙ sym (node-station x n heads _) ∙ none))
+node-late x n epoch env heads (node.Acknowledged true) comes = node-drops x n env heads (node.Acknowledged true) refl
+node-late x n epoch env heads (node.Acknowledged false) comes = node-drops x n env heads (node.Acknowledged false) refl
 node-late x n epoch env heads g comes = node-drops x n env heads g refl
 
 aside-late : (k : Setting) (x : Conn) (n : ℕ) (a : Aside) → Each IsAmongNodes (letters_of (stands x (Node n) (aside_seen n a) (aside_said k n x.c a)))

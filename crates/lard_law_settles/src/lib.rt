@@ -30,7 +30,7 @@ pub fn settles_stop_at_limits_alone()
     ensures settles { SettlesStopAtLimits }
 {}
 
-/// In each state of a run fewer than 2^40 timers run and jobs wait: at each seat five timers at most, and at each node fewer than 2^31
+/// In each state of a run fewer than 2^40 timers run and jobs wait: at each seat six timers at most, and at each node fewer than 2^31
 /// jobs. So what a settle leaves is a number of 64 bits.
 pub fn few_are_left()
     ensures few { FewAreLeft }

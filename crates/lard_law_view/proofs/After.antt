@@ -8,7 +8,7 @@ use Rattle.lard_base.specs.declared.event.Event.TheVariants as event
 use Rattle.lard_law_view.proofs.AnyShape.{AnyShape, IsAct, SomeGift, SomeNote, SomeTimer, some-noted, step-any}
 use Rattle.lard_law_view.proofs.OfKinds.{OfTimers, of-gift, of-sents, of-timer}
 use Rattle.lard_law_view.proofs.Saying.{IsStill, gave-still, note-passes}
-use Rattle.lard_law_view.proofs.Shapes.{HasJobs, IsPut}
+use Rattle.lard_law_view.proofs.Shapes.{HasJobs, IsPut, NoneLeaves}
 use Rattle.lard_law_view.proofs.Timers.{timer-still}
 use Rattle.lard_history.proofs.Each.{Each, Each-append, Each-weaker}
 use Rattle.lard_history.proofs.Stepping.{AreInside, IsOneStep}
@@ -31,6 +31,7 @@ pub record IsAfter (m : Machine) (e : Event) (n : Machine) : Type 0 where
   pub files : n.files ≡ m.files
   pub nodes : length n.nodes ≡ length m.nodes
   pub jobs : HasJobs m → HasJobs n
+  pub remain : NoneLeaves m → NoneLeaves n
 
 -- ---- records that begin no step, and tell of no packet
 
@@ -175,6 +176,7 @@ module _ (m : Machine) (known : net_of m.journal ≡ m.net) where
         files = put.files;
         nodes = put.nodes;
         jobs = put.jobs;
+        remain = put.remain;
       }
 
   passed-after : (w : Machine) (e : Event) (r : Rec) → w.journal ≡ m.journal → w.events ≡ m.events → w.answered ≡ m.answered → HasOwn e (r ∷ []) → ((n : ℕ) → answered_step n r ≡ n) → w.config ≡ m.config → w.files ≡ m.files → w.nodes ≡ m.nodes → is_opening r ≡ false → net_step m.net r ≡ w.net → IsAfter m e (passed w e (r ∷ []))
@@ -190,6 +192,7 @@ module _ (m : Machine) (known : net_of m.journal ≡ m.net) where
     files = files;
     nodes = ap (λ ns. length ns) nodes;
     jobs = λ h n s at. h n s (ap (λ ns. node_at ns n) (sym nodes) ∙ at);
+    remain = λ h n s at. h n s (ap (λ ns. node_at ns n) (sym nodes) ∙ at);
   }
 
   after-any : AnyShape m (λ e n. IsAfter m e n)

@@ -41,7 +41,7 @@ module _ (m : Machine) (P : Conn → Move → Type 0) (Q : Event → Machine →
       let said = client-said c given turn in
       shapes.one (client_put m c s) e (Client c) (out_of (Client c) c was (is_client_armed given.0) given.1) c heads given.1.notes (with_station (part_of m c) s)
       (record {
-        put = record { config = refl; files = refl; net = refl; journal = refl; events = refl; answered = refl; now = refl; nodes = refl; jobs = λ h. h };
+        put = record { config = refl; files = refl; net = refl; journal = refl; events = refl; answered = refl; now = refl; nodes = refl; jobs = λ h. h; remain = λ h. h };
         number = number;
         begins = begins;
         said = said-in (Client c) c given.1.notes given.1.segments [] [] given.1.answered said;

@@ -3,7 +3,7 @@
 use Rattle.std.proofs.Common.{◌≡◌, ℕ, List, [], ◌∷◌, ◌++◌, Option, Some, Result, refl, sym, ap, ◌∙◌}
 use Rattle.lard_base.specs.declared.event.Event.TheVariants as event
 use Rattle.lard_journal.specs.declared.rec.Rec.TheVariants as rec
-use Rattle.lard_law_view.specs.Prelude.{Acknowledged, BackRow, Body, Completed, Conn, Content, Fires, Forwarded, Front, IsNodeEnv, Move, Node, NodeEnv, NodeGets, NodeRules, Offered, Place, Rec, Said, Seen, SegFault, Setting, SpellsMessage, Station, Tagged, ToCluster, TurnSaid, Was, brought_said, content_said, decoded, epoch_in, event_seen, node_does, node_rule, nothing_said, packet_seen, stands}
+use Rattle.lard_law_view.specs.Prelude.{Acknowledged, BackRow, Body, Completed, Conn, Content, Fires, Forwarded, Front, IsNodeEnv, Leaves, Move, Node, NodeEnv, NodeGets, NodeRules, Offered, Place, Rec, Said, Seen, SegFault, Setting, SpellsMessage, Station, Tagged, ToCluster, TurnSaid, Was, ack_body, brought_said, content_said, decoded, epoch_in, event_seen, node_does, node_rule, nothing_said, packet_seen, stands}
 use Rattle.lard_message.specs.declared.message.Body.TheVariants as body
 use Rattle.lard_rules.proofs.NodeCases.{IsInItsEpoch}
 
@@ -39,9 +39,10 @@ NodeComes x n epoch heads (Offered parts) = HasCome x Front n epoch (body.Offer 
 NodeComes x n epoch heads (Forwarded given) = HasForwarded x n epoch given heads
 NodeComes x n epoch heads (Tagged number nodes) = HasCome x Front n epoch (body.Tag number nodes) heads
 NodeComes x n epoch heads (Content from r) = HasContent x from n epoch r heads
-NodeComes x n epoch heads Acknowledged = HasCome x Front n epoch body.EndedAck heads
+NodeComes x n epoch heads (Acknowledged back) = HasCome x Front n epoch (ack_body back) heads
 NodeComes x n epoch heads (Completed r path) = heads ≡ []
 NodeComes x n epoch heads Fires = HasFired x n epoch heads
+NodeComes x n epoch heads Leaves = (heads ≡ []) × (epoch ≡ epoch_in (x.part.nodes n))
 
 -- the record of a job that was completed stands before all that it leads to
 abbrev pub job_notes : ℕ → ℕ → NodeGets → List Rec
@@ -98,15 +99,16 @@ row-epoch x n env is row found = sym (is ∙ ap (λ (o : Option BackRow). epoch_
 module _ (k : Setting) (P : Conn → Move → Type 0) where
   pub each-node : EachNode k P → NodeRules k P
   each-node e = record {
-    offered = λ x n epoch env parts bytes is spells was. e.does x n epoch env (packet_seen Front (Node n) bytes) (Offered parts) is tt (record { bytes = bytes; spells = spells; was = was; seen = refl });
-    forwarded = λ x n epoch env segment bytes is spells was. e.does x n epoch env (packet_seen Front (Node n) bytes) (Forwarded (decoded segment x.c ToCluster)) is tt
+    offered = λ x n epoch env parts bytes is spells was. e.does x n epoch env (packet_seen Front (Node n) bytes) (Offered parts) is (tt, is.remains) (record { bytes = bytes; spells = spells; was = was; seen = refl });
+    forwarded = λ x n epoch env segment bytes is spells was. e.does x n epoch env (packet_seen Front (Node n) bytes) (Forwarded (decoded segment x.c ToCluster)) is (tt, is.remains)
         (record { segment = segment; came = record { bytes = bytes; spells = spells; was = was; seen = refl }; read = refl });
-    tagged = λ x n epoch number nodes env bytes is spells was. e.does x n epoch env (packet_seen Front (Node n) bytes) (Tagged number nodes) is tt (record { bytes = bytes; spells = spells; was = was; seen = refl });
-    content = λ x n from epoch r env file bytes is spells was. e.does x n epoch env (packet_seen (Node from) (Node n) bytes) (Content from r) is tt
+    tagged = λ x n epoch number nodes env bytes is spells was. e.does x n epoch env (packet_seen Front (Node n) bytes) (Tagged number nodes) is (tt, is.remains) (record { bytes = bytes; spells = spells; was = was; seen = refl });
+    content = λ x n from epoch r env file bytes is spells was. e.does x n epoch env (packet_seen (Node from) (Node n) bytes) (Content from r) is (tt, is.remains)
         (record { file = file; came = record { bytes = bytes; spells = spells; was = was; seen = refl } });
-    acknowledged = λ x n epoch env bytes is spells was. e.does x n epoch env (packet_seen Front (Node n) bytes) Acknowledged is tt (record { bytes = bytes; spells = spells; was = was; seen = refl });
-    read = λ x n epoch r env path is. e.does x n epoch env [] (Completed r path) is tt refl;
-    fires = λ x s n env there is. e.does x n (epoch_in (x.part.nodes n)) env (event_seen (event.Timer (Node n) x.c)) Fires is (row-epoch x n env is.epoch_is) (record { station = s; there = there; epoch_is = refl; seen = refl });
+    acknowledged = λ x n epoch back env bytes is spells was. e.does x n epoch env (packet_seen Front (Node n) bytes) (Acknowledged back) is (tt, is.remains)
+        (record { bytes = bytes; spells = spells; was = was; seen = refl });
+    read = λ x n epoch r env path is. e.does x n epoch env [] (Completed r path) is (tt, is.remains) refl;
+    fires = λ x s n env there is. e.does x n (epoch_in (x.part.nodes n)) env (event_seen (event.Timer (Node n) x.c)) Fires is (row-epoch x n env is.epoch_is, is.remains) (record { station = s; there = there; epoch_is = refl; seen = refl });
     answers = λ x n from epoch r path file bytes there spells was. e.aside x n (Answers from epoch r path file bytes) (record { there = there; spells = spells; was = was });
     queues = λ x n from epoch r path file bytes there spells was. e.aside x n (Queues from epoch r path file bytes) (record { there = there; spells = spells; was = was });
     brings = λ x n from epoch r path. e.aside x n (Brings from epoch r path) tt;

@@ -213,8 +213,8 @@ node-rules k = record {
       (λ own i. nodes.tagged-deed env own i (x.part.nodes n) z ns);
   content = λ x n from epoch r env file bytes is spells was number sound. node-rule x number sound k n epoch env is (packet_seen (Node from) (Node n) bytes) (node.node_content env (x.part.nodes n) from r)
       (λ own i. nodes.content-deed env own i (x.part.nodes n) from r);
-  acknowledged = λ x n epoch env bytes is spells was number sound. node-rule x number sound k n epoch env is (packet_seen Front (Node n) bytes) (node.node_acknowledged env (x.part.nodes n))
-      (λ own i. nodes.acknowledged-deed env own i (x.part.nodes n));
+  acknowledged = λ x n epoch back env bytes is spells was number sound. node-rule x number sound k n epoch env is (packet_seen Front (Node n) bytes) (node.node_acknowledged env back (x.part.nodes n))
+      (λ own i. nodes.acknowledged-deed env own i (x.part.nodes n) back);
   read = λ x n epoch r env path is number sound. read-fine x number sound n r path (node.node_read env (x.part.nodes n) r)
       (node-rule x number sound k n epoch env is [] (node.node_read env (x.part.nodes n) r) (λ own i. nodes.read-deed env own i (x.part.nodes n) r));
   fires = λ x s n env there is number sound. node-rule x number sound k n (epoch_in (x.part.nodes n)) env is (event_seen (event.Timer (Node n) x.c)) (node.node_timer env (x.part.nodes n))

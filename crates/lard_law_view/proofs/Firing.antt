@@ -100,7 +100,7 @@ module _ (m : Machine) (view : IsViewed m) (P : Conn → Move → Type 0) (R : R
         let fetches : AreMessages c (Node n) (map sent_of (node_part s c).fetches) =
         subst (λ (p : NodePart). AreMessages c (Node n) (map sent_of p.fetches)) kept-is (sent-messages (conn m c) (Node n) ((part_of m c).nodes n).fetches (view.sound c).between ((view.sound c).fetches n)) in
         let is-env : IsNodeEnv (setting_of m) c n (epoch_in ((part_of m c).nodes n)) env =
-        record { place = refl; number = refl; files = refl; stream = refl; node = refl; epoch_is = ap epoch_in (sym kept-is); leaves = ap leaves_at (sym here) } in
+        record { place = refl; number = refl; files = refl; stream = refl; node = refl; epoch_is = ap epoch_in (sym kept-is); leaves = ap leaves_at (sym here); remains = view.remain n s here } in
         let moves : P (conn m c) (node_does (conn m c) n (event_seen e) (node_timer env ((conn m c).part.nodes n))) =
         R.untouched.node.fires (conn m c) x n env station-there is-env in
         deed-acts m P Q shapes e c (event_seen e) opened n (names m e (Node n) c refl (λ J. refl) tt) refl s here [] tt (λ j. refl) (λ rs. refl) s.cache s.disk (view.jobs n s here) (node_setting m n) (node_timer env (node_part s c)) refl
@@ -124,7 +124,7 @@ module _ (m : Machine) (view : IsViewed m) (P : Conn → Move → Type 0) (R : R
         let env : NodeEnv = node_env (node_setting m n) after job.c job.epoch.0 in
         let kept-is : (part_of m job.c).nodes n ≡ node_part s job.c = node-kept m n s job.c here in
         let moves : P (conn m job.c) (reads_first (read_of n) (node_does (conn m job.c) n [] (node_read env ((part_of m job.c).nodes n) job.r))) =
-        R.untouched.node.read (conn m job.c) n job.epoch.0 job.r env job.path (record { place = refl; number = refl; files = refl; stream = refl; node = refl; epoch_is = refl; leaves = ap leaves_at (sym here) }) in
+        R.untouched.node.read (conn m job.c) n job.epoch.0 job.r env job.path (record { place = refl; number = refl; files = refl; stream = refl; node = refl; epoch_is = refl; leaves = ap leaves_at (sym here); remains = view.remain n s here }) in
         deed-acts m P Q shapes (event.Disk n j) job.c [] number n (completes m n j job.c) refl s here (read_of job.origin ∷ []) ((refl, refl), tt) (λ k. refl) (λ rs. refl)
         after.cache after.disk (others-numbered s.disk j (view.jobs n s here)) (node_setting m n) (node_read env (node_part s job.c) job.r) refl
         (nodes.read-deed env refl number (node_part s job.c) job.r)

@@ -2,7 +2,7 @@
 -- three cases, whatever rules there are.
 use Rattle.std.proofs.Common.{◌≡◌, ℕ, List, [], sym, subst}
 use Rattle.lard_base.specs.declared.event.Event.TheVariants as event
-use Rattle.lard_law_view.specs.Prelude.{AskedBy, Client, Completed, Conn, Content, EndedBy, Fires, FirstChoice, Forwarded, Front, FrontAdmits, FrontEnv, FrontFires, FrontGets, FrontHears, FrontPart, FrontTurn, Node, NodeGets, Place, Seen, Was, event_seen, packet_seen}
+use Rattle.lard_law_view.specs.Prelude.{AskedBy, Client, Completed, Conn, Content, EndedBy, Fires, FirstChoice, Forwarded, Front, FrontAdmits, FrontEnv, FrontFires, FrontGets, FrontHears, FrontPart, FrontTurn, Leaves, Node, NodeGets, Place, Seen, Was, event_seen, packet_seen}
 use Rattle.lard_law_view.proofs.EachFront.{FrontComes, HasRung, HasTurn}
 use Rattle.lard_law_view.proofs.EachNode.{HasFired, NodeComes}
 
@@ -21,10 +21,11 @@ module _ (x : Conn) (env : FrontEnv) (heads : List Seen) (P : List Seen → Fron
 module _ (x : Conn) (n epoch : ℕ) (heads : List Seen) (P : List Seen → NodeGets → Type 0)
     (packet : (from : Place) (bytes : List ℕ) (g : NodeGets) → heads ≡ packet_seen from (Node n) bytes → P heads g)
     (timer : HasFired x n epoch (event_seen (event.Timer (Node n) x.c)) → P (event_seen (event.Timer (Node n) x.c)) Fires)
-    (none : (r : ℕ) (path : List ℕ) → P [] (Completed r path)) where
+    (none : (g : NodeGets) → P [] g) where
   pub by-node-seen : (g : NodeGets) → NodeComes x n epoch heads g → P heads g
   by-node-seen (Forwarded given) comes = packet Front comes.came.bytes (Forwarded given) comes.came.seen
   by-node-seen (Content from r) comes = packet (Node from) comes.came.bytes (Content from r) comes.came.seen
-  by-node-seen (Completed r path) comes = subst (λ (ss : List Seen). P ss (Completed r path)) (sym comes) (none r path)
+  by-node-seen (Completed r path) comes = subst (λ (ss : List Seen). P ss (Completed r path)) (sym comes) (none (Completed r path))
+  by-node-seen Leaves comes = subst (λ (ss : List Seen). P ss Leaves) (sym comes.0) (none Leaves)
   by-node-seen Fires comes = subst (λ (ss : List Seen). HasFired x n epoch ss → P ss Fires) (sym comes.seen) timer comes
   by-node-seen g comes = packet Front comes.bytes g comes.seen

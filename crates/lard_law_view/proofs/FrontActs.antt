@@ -13,7 +13,7 @@ use Rattle.lard_rules.proofs.FrontParts.{part_other, part_put}
 use Rattle.lard_law_view.proofs.OwnRecords.{behind}
 
 pub front-put : (m : Machine) (s : FrontState) → IsPut m (record m { front = s })
-front-put m s = record { config = refl; files = refl; net = refl; journal = refl; events = refl; answered = refl; now = refl; nodes = refl; jobs = λ h. h }
+front-put m s = record { config = refl; files = refl; net = refl; journal = refl; events = refl; answered = refl; now = refl; nodes = refl; jobs = λ h. h; remain = λ h. h }
 
 module _ (m : Machine) (P : Conn → Move → Type 0) (Q : Event → Machine → Type 0) (shapes : Shapes m P Q) (e : Event) (c : ℕ) (heads : List Seen) (number : IsConnNumber c) (begins : Begins m e Front c heads)
     (own : AreOwn e (behind e)) where

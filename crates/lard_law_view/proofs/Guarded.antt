@@ -37,7 +37,7 @@ module _ (k : Setting) (P Q : Conn → Move → Type 0) where
       forwarded = λ x n epoch env segment bytes is spells was. w x _ (R.forwarded x n epoch env segment bytes is spells was);
       tagged = λ x n epoch z ns env bytes is spells was. w x _ (R.tagged x n epoch z ns env bytes is spells was);
       content = λ x n from epoch r env file bytes is spells was. w x _ (R.content x n from epoch r env file bytes is spells was);
-      acknowledged = λ x n epoch env bytes is spells was. w x _ (R.acknowledged x n epoch env bytes is spells was);
+      acknowledged = λ x n epoch back env bytes is spells was. w x _ (R.acknowledged x n epoch back env bytes is spells was);
       read = λ x n epoch r env path is. w x _ (R.read x n epoch r env path is);
       fires = λ x s n env there is. w x _ (R.fires x s n env there is);
       answers = λ x n from epoch r path file bytes there spells was. w x _ (R.answers x n from epoch r path file bytes there spells was);
@@ -84,7 +84,7 @@ module _ (k : Setting) (P Q : Conn → Move → Type 0) where
     forwarded = λ x n epoch env segment bytes is spells was. (R.forwarded x n epoch env segment bytes is spells was, S.forwarded x n epoch env segment bytes is spells was);
     tagged = λ x n epoch z ns env bytes is spells was. (R.tagged x n epoch z ns env bytes is spells was, S.tagged x n epoch z ns env bytes is spells was);
     content = λ x n from epoch r env file bytes is spells was. (R.content x n from epoch r env file bytes is spells was, S.content x n from epoch r env file bytes is spells was);
-    acknowledged = λ x n epoch env bytes is spells was. (R.acknowledged x n epoch env bytes is spells was, S.acknowledged x n epoch env bytes is spells was);
+    acknowledged = λ x n epoch back env bytes is spells was. (R.acknowledged x n epoch back env bytes is spells was, S.acknowledged x n epoch back env bytes is spells was);
     read = λ x n epoch r env path is. (R.read x n epoch r env path is, S.read x n epoch r env path is);
     fires = λ x s n env there is. (R.fires x s n env there is, S.fires x s n env there is);
     answers = λ x n from epoch r path file bytes there spells was. (R.answers x n from epoch r path file bytes there spells was, S.answers x n from epoch r path file bytes there spells was);

@@ -1,5 +1,5 @@
 -- A packet comes to a place, which acts on the connection that it is of, or does nothing.
-use Rattle.std.proofs.Common.{◌≡◌, ℕ, false, List, [], ◌∷◌, map, Option, Some, None, Result, Ok, Err, refl, sym, ◌∙◌, subst, arith, ap}
+use Rattle.std.proofs.Common.{◌≡◌, ℕ, true, false, List, [], ◌∷◌, map, Option, Some, None, Result, Ok, Err, refl, sym, ◌∙◌, subst, arith, ap}
 use Rattle.std.proofs.lemmas.Bool.{cond_both}
 use Rattle.std.specs.FinMap as table
 use Rattle.std.specs.List.{list_any}
@@ -147,7 +147,7 @@ module _ (m : Machine) (view : IsViewed m) (P : Conn → Move → Type 0) (R : R
       its-sent = was m k c l at from (Node n) is-from is-to of
 
       is-node-env : IsNodeEnv (setting_of m) c n epoch its_env
-      is-node-env = record { place = refl; number = refl; files = refl; stream = refl; node = refl; epoch_is = refl; leaves = ap leaves_at (sym here) }
+      is-node-env = record { place = refl; number = refl; files = refl; stream = refl; node = refl; epoch_is = refl; leaves = ap leaves_at (sym here); remains = view.remain n s here }
 
       -- by this rule
       hears : (rule : NodePart → NodeDeed) → IsNodeDeed n c (node_part s c) (rule (node_part s c)) → P (conn m c) (node_does (conn m c) n its_heads (rule ((conn m c).part.nodes n)))
@@ -175,8 +175,12 @@ module _ (m : Machine) (view : IsViewed m) (P : Conn → Move → Type 0) (R : R
           (R.untouched.node.tagged (conn m c) n epoch x ns env l.bytes (is-node-env Front is-from c epoch number of) spells (its-sent Front is-from c epoch number of))
       front-hears is-from of body.EndedAck spells =
           let env : NodeEnv = its_env Front is-from c epoch number of in
-          hears Front is-from c epoch number of (λ p. node_acknowledged env p) (nodes.acknowledged-deed env refl number (node_part s c))
-          (R.untouched.node.acknowledged (conn m c) n epoch env l.bytes (is-node-env Front is-from c epoch number of) spells (its-sent Front is-from c epoch number of))
+          hears Front is-from c epoch number of (λ p. node_acknowledged env false p) (nodes.acknowledged-deed env refl number (node_part s c) false)
+          (R.untouched.node.acknowledged (conn m c) n epoch false env l.bytes (is-node-env Front is-from c epoch number of) spells (its-sent Front is-from c epoch number of))
+      front-hears is-from of body.Given spells =
+          let env : NodeEnv = its_env Front is-from c epoch number of in
+          hears Front is-from c epoch number of (λ p. node_acknowledged env true p) (nodes.acknowledged-deed env refl number (node_part s c) true)
+          (R.untouched.node.acknowledged (conn m c) n epoch true env l.bytes (is-node-env Front is-from c epoch number of) spells (its-sent Front is-from c epoch number of))
       front-hears is-from of _ spells = node-silent (front-unheard n is-from is-to (of-kind IsForNode _ spells (λ for. for)))
 
       module _ (from : ℕ) (is-from : l.from ≡ Node from) (of : conn_of (Node from) (Node n) l.bytes ≡ Some c) where

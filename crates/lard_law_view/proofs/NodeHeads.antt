@@ -3,7 +3,7 @@ use Rattle.std.proofs.Common.{ℕ, List, [], sym, subst}
 use Rattle.lard_base.specs.declared.event.Event.TheVariants as event
 use Rattle.lard_history.proofs.Each.{Each}
 use Rattle.lard_journal.specs.declared.rec.Rec.TheVariants as rec
-use Rattle.lard_law_view.specs.Prelude.{Came, Completed, Conn, Content, Fires, Forwarded, Front, Letter, Node, NodeGets, Place, Row, Seen, event_seen, packet_seen}
+use Rattle.lard_law_view.specs.Prelude.{Came, Completed, Conn, Content, Fires, Forwarded, Front, Leaves, Letter, Node, NodeGets, Place, Row, Seen, event_seen, packet_seen}
 use Rattle.lard_law_view.proofs.EachNode.{Answers, Aside, Brings, NodeComes, Queues, aside_seen}
 
 module _ (x : Conn) (n : ℕ) (P : List Seen → Type 0) (packet : (from : Place) (bytes : List ℕ) → P (packet_seen from (Node n) bytes)) (none : P []) where
@@ -11,6 +11,7 @@ module _ (x : Conn) (n : ℕ) (P : List Seen → Type 0) (packet : (from : Place
   of-heads timer epoch heads (Forwarded given) comes = subst P (sym comes.came.seen) (packet Front comes.came.bytes)
   of-heads timer epoch heads (Content from r) comes = subst P (sym comes.came.seen) (packet (Node from) comes.came.bytes)
   of-heads timer epoch heads (Completed r path) comes = subst P (sym comes) none
+  of-heads timer epoch heads Leaves comes = subst P (sym comes.0) none
   of-heads timer epoch heads Fires comes = subst P (sym comes.seen) timer
   of-heads timer epoch heads g comes = subst P (sym comes.seen) (packet Front comes.bytes)
 

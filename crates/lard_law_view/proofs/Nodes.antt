@@ -1,8 +1,8 @@
 -- What each rule of a node says is of its connection.
-use Rattle.std.proofs.Common.{◌≡◌, ℕ, true, List, [], ◌∷◌, ◌++◌, map, Option, Some, None, Result, Ok, Err, refl, arith, inl, inr}
+use Rattle.std.proofs.Common.{◌≡◌, ℕ, Bool, true, List, [], ◌∷◌, ◌++◌, map, Option, Some, None, Result, Ok, Err, refl, arith, inl, inr}
 use Rattle.std.proofs.lemmas.Bool.{cond_both}
 use Rattle.std.specs.List.{AllByRecursion, find}
-use Rattle.lard_law_view.specs.Prelude.{Adopt, AreNumbered, Asked, ControlBlock, Ending, EndpointParts, GoesBetween, Has, IsConnNumber, IsMachine, Job, Kept, Node, NodeDeed, NodeEnv, NodePart, NodeTurn, Place, Said, SegFault, Service, Stay, Turn, Want, Work, again_sent, all_sent, anew, ask_kept, asked_kept, asked_sent, awaits_ack, back_endpoint, both_of, came_for, come_by, come_progress, ended_kept, ended_sent, fetch_of, gave_by, goes_on, gone, here, is_from, is_tag_awaited, is_under, kept_after, node_acknowledged, node_begins, node_content, node_fired_by, node_forwarded, node_heard_by, node_offered, node_read, node_read_by, node_saying, node_tagged, node_timer, offer_answer, offered_by, on_segment, read_progress, reads_batch, sent_of, serving, serving_ready_of, serving_settled, spoken, state_of, tagged, tagged_by, taken_sent, turn_by, wants_kept, wants_sent, with_work, without, work_of}
+use Rattle.lard_law_view.specs.Prelude.{Adopt, AreNumbered, Asked, ControlBlock, Ending, EndpointParts, GoesBetween, Has, IsConnNumber, IsMachine, Job, Kept, Node, NodeDeed, NodeEnv, NodePart, NodeTurn, Place, Said, SegFault, Service, Stay, Turn, Want, Work, again_sent, all_sent, anew, ask_kept, asked_kept, asked_sent, awaits_told, back_endpoint, both_of, came_for, come_by, come_progress, ended_kept, ended_sent, fetch_of, gave_by, give_kept, gives_back, goes_on, gone, here, is_from, is_tag_awaited, is_under, kept_after, kept_refused, may_give_back, node_acknowledged, node_begins, node_content, node_fired_by, node_forwarded, node_heard_by, node_offered, node_read, node_read_by, node_saying, node_tagged, node_timer, node_turns, offer_decision, offered_by, on_segment, read_progress, reads_batch, refused_sent, sent_of, serving, serving_ready_of, serving_settled, spoken, state_of, tagged, tagged_by, taken_sent, told_kind, turn_by, wants_kept, wants_sent, with_work, without, work_of}
 use Rattle.lard_base.specs.declared.place.TimerKind.TheVariants as kind
 use Rattle.lard_law_view.proofs.Saying.{AreMessages, GaveAt}
 use Rattle.lard_law_view.proofs.Turned.{AreHeld, HeldBy, IsSaid, all-has, all-weaker, as-held, node-segments, spelled}
@@ -72,6 +72,11 @@ module _ (env : NodeEnv) (own : env.serve.place ≡ Node env.n) (number : IsConn
   abbrev IsMessage : Place × List ℕ → Type 0
   IsMessage s = IsMachine s.0 × GoesBetween env.serve.c (Node env.n) s.0 s.1
 
+  -- all that goes out before how the stay is over
+  all-said : (before : List (Place × List ℕ)) (w : Work) → AreSaid before → AreSaid (all_sent env before w)
+  all-said before w said = Each-append IsMessage (before ++ asked_sent env w.asked) (wants_sent env w.wants)
+      (Each-append IsMessage before (asked_sent env w.asked) said (asks-sent w.asked)) (wants-are-sent w.wants)
+
   -- a turn that ends so
   turn-of : (before : List (Place × List ℕ)) (w : Work) (given : Ending × Turn) → AreSaid before → AreNumbered w.jobs → IsServingTurn (N env own number) env.serve.c given.1
       → IsOfNode (turn_by env before w given)
@@ -80,10 +85,7 @@ module _ (env : NodeEnv) (own : env.serve.place ≡ Node env.n) (number : IsConn
       notes = t.notes;
       segments = node-segments env.n env.serve.c given.1.segments t.to;
       gave = gave-of given.0;
-      messages = Each-append IsMessage (all_sent env before w) (ended_sent env w.service.over given.0)
-          (Each-append IsMessage (before ++ asked_sent env w.asked) (wants_sent env w.wants)
-          (Each-append IsMessage before (asked_sent env w.asked) said (asks-sent w.asked)) (wants-are-sent w.wants))
-          (ends-sent w.service.over given.0);
+      messages = Each-append IsMessage (all_sent env before w) (ended_sent env w.service.over given.0) (all-said before w said) (ends-sent w.service.over given.0);
       counted = t.answered;
     },
     jobs,
@@ -144,6 +146,27 @@ module _ (env : NodeEnv) (own : env.serve.place ≡ Node env.n) (number : IsConn
     works-deed : (q : NodePart) (before : List (Place × List ℕ)) (w : Work) → IsLess q → AreSaid before → Works w → IsDeed (with_work env q before w)
     works-deed q before w less said h = result q before w (serving_settled env.serve w.service) less said h.1 (turns.settled-turn env.serve (N env own number) (noting env own number) w.service h.0)
 
+    -- the connection goes back
+    back-deed : (q : NodePart) (before : List (Place × List ℕ)) (w : Work) → AreSaid before → Works w → IsDeed (gives_back env q before w)
+    back-deed q before w said h =
+        let give : List (Place × List ℕ) = sent_of (give_kept env w) ∷ [] in (
+          (
+            record {
+              notes = h.0.0;
+              segments = tt;
+              gave = ((refl, refl), tt);
+              messages = Each-append IsMessage (all_sent env before w) give (all-said before w said) ((tt, spelled env.serve.c env.epoch (body.Give _) number), tt);
+              counted = h.0.1;
+            },
+            h.1,
+          ),
+          (inl (has-behind (sent_of (give_kept env w)) (all_sent env before w) give (inl refl)), tt),
+          tt,
+        )
+
+    turns-deed : (q : NodePart) (before : List (Place × List ℕ)) (w : Work) → IsLess q → AreSaid before → Works w → IsDeed (node_turns env q before w)
+    turns-deed q before w less said h = cond_both (may_give_back env w) (gives_back env q before w) (with_work env q before w) IsDeed (λ t. back-deed q before w said h) (λ t. works-deed q before w less said h)
+
     fresh : (b : ControlBlock) (s : Stay) → Works (work_of b s)
     fresh b s = ((tt, λ n. omega arith), tt)
 
@@ -151,7 +174,7 @@ module _ (env : NodeEnv) (own : env.serve.place ≡ Node env.n) (number : IsConn
     heard-deed (Err fault) x = tt
     heard-deed (Ok s) None = tt
     heard-deed (Ok s) (Some x) =
-        let w : Work = work_of (on_segment x.0 s).1 x.1 in works-deed p [] (goes_on env w) same tt (goes-works env Told told w (fresh (on_segment x.0 s).1 x.1))
+        let w : Work = work_of (on_segment x.0 s).1 x.1 in turns-deed p [] (goes_on env w) same tt (goes-works env Told told w (fresh (on_segment x.0 s).1 x.1))
 
     pub forwarded-deed : (given : Result Said SegFault) → IsDeed (node_forwarded env p given)
     forwarded-deed given = heard-deed given (here env.epoch p)
@@ -161,8 +184,8 @@ module _ (env : NodeEnv) (own : env.serve.place ≡ Node env.n) (number : IsConn
     tagged_by-deed n nodes (Some x) =
         let q : NodePart = record p { kept = without kind.Ask 0 p.kept } in
         let w : Work = tagged env nodes (work_of x.0 x.1) in
-        cond_both (is_tag_awaited env n nodes p x.1) (with_work env q [] (goes_on env w)) Drops IsDeed
-        (λ t. works-deed q [] (goes_on env w) (drop_all (λ k. Has k p.kept) kind.Ask 0 p.kept same.0, same.1) tt
+        cond_both (is_tag_awaited env n nodes p x.1) (node_turns env q [] (goes_on env w)) Drops IsDeed
+        (λ t. turns-deed q [] (goes_on env w) (drop_all (λ k. Has k p.kept) kind.Ask 0 p.kept same.0, same.1) tt
         (goes-works env Told told w (tagged-works env Told told nodes (work_of x.0 x.1) (fresh x.0 x.1))))
         (λ t. tt)
 
@@ -174,8 +197,8 @@ module _ (env : NodeEnv) (own : env.serve.place ≡ Node env.n) (number : IsConn
     come-deed from r (Some x) =
         let q : NodePart = record p { fetches = without kind.Fetch r p.fetches } in
         let w : Work = came_for (come_progress from) r (work_of x.0 x.1) in
-        cond_both (is_from from env.epoch (find (is_under kind.Fetch r) p.fetches)) (with_work env q [] (goes_on env w)) Drops IsDeed
-        (λ t. works-deed q [] (goes_on env w) (same.0, drop_all (λ k. Has k p.fetches) kind.Fetch r p.fetches same.1) tt
+        cond_both (is_from from env.epoch (find (is_under kind.Fetch r) p.fetches)) (node_turns env q [] (goes_on env w)) Drops IsDeed
+        (λ t. turns-deed q [] (goes_on env w) (same.0, drop_all (λ k. Has k p.fetches) kind.Fetch r p.fetches same.1) tt
         (goes-works env Told told w (came-works env Told told (come_progress from) r (work_of x.0 x.1) (fresh x.0 x.1))))
         (λ t. tt)
 
@@ -186,7 +209,7 @@ module _ (env : NodeEnv) (own : env.serve.place ≡ Node env.n) (number : IsConn
     read_by-deed r None = tt
     read_by-deed r (Some x) =
         let w : Work = came_for read_progress r (work_of x.0 x.1) in
-        works-deed p [] (goes_on env w) same tt (goes-works env Told told w (came-works env Told told read_progress r (work_of x.0 x.1) (fresh x.0 x.1)))
+        turns-deed p [] (goes_on env w) same tt (goes-works env Told told w (came-works env Told told read_progress r (work_of x.0 x.1) (fresh x.0 x.1)))
 
     pub read-deed : (r : ℕ) → IsDeed (node_read env p r)
     read-deed r = read_by-deed r (here env.epoch p)
@@ -203,20 +226,24 @@ module _ (env : NodeEnv) (own : env.serve.place ≡ Node env.n) (number : IsConn
         (goes-works env Told told w (batch-works env Told told true (node_begins env parts) refl ((((refl, refl), tt), λ n. omega arith), tt)))
     offered_by-deed parts Again = takes
     offered_by-deed parts Stale = tt
-    offered_by-deed parts Refuse = tt
+    offered_by-deed parts Refuse = (
+      (record { notes = tt; segments = tt; gave = tt; messages = ((tt, spelled env.serve.c env.epoch body.Refused number), tt); counted = λ n. omega arith }, tt),
+      as-held (refused_sent env) p.kept,
+      as-held (refused_sent env) p.fetches,
+    )
 
     pub offered-deed : (parts : EndpointParts) → IsDeed (node_offered env p parts)
-    offered-deed parts = offered_by-deed parts (offer_answer env.epoch p.row)
+    offered-deed parts = offered_by-deed parts (offer_decision env.leaving env.epoch p.row p.beside)
 
     -- ---- the end of a stay
 
-    pub acknowledged-deed : IsDeed (node_acknowledged env p)
-    acknowledged-deed =
-        let q : NodePart = record p { row = gone p.row; kept = without kind.Ended 0 p.kept } in
-        cond_both (awaits_ack env.epoch p.row) (Does (q, node_saying [])) Drops IsDeed
+    pub acknowledged-deed : (back : Bool) → IsDeed (node_acknowledged env back p)
+    acknowledged-deed back =
+        let q : NodePart = record p { row = gone p.row; kept = without (told_kind back) 0 p.kept } in
+        cond_both (awaits_told back env p) (Does (q, node_saying [])) Drops IsDeed
         (λ t. (
           (record { notes = tt; segments = tt; gave = tt; messages = tt; counted = λ n. omega arith }, tt),
-          drop_all (HeldBy [] p.kept) kind.Ended 0 p.kept (as-held [] p.kept),
+          drop_all (HeldBy [] p.kept) (told_kind back) 0 p.kept (as-held [] p.kept),
           as-held [] p.fetches,
         ))
         (λ t. tt)

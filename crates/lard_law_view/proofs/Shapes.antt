@@ -4,7 +4,7 @@ use Rattle.std.proofs.Common.{◌≡◌, ◌≢◌, ℕ, ◌+◌, ◌-◌, ◌<�
 use Rattle.std.specs.Prelude.{◌⊎◌}
 use Rattle.std.specs.FinMap as table
 use Rattle.std.specs.List.{flat_map}
-use Rattle.lard_law_view.specs.Prelude.{AreNumbered, Client, Conn, EndpointParts, Epoch, Event, Front, IsConnNumber, IsMachine, IsUnheard, Machine, Move, Node, NodeState, Out, Packet, Part, Place, Rec, Row, Seen, SpellsMessage, back_body, clocked, conn, conn_of, lose_at, machine_told, node_at, packet_at, part_of, passed, seen_on, timer_rows}
+use Rattle.lard_law_view.specs.Prelude.{AreNumbered, Client, Conn, EndpointParts, Epoch, Event, Front, IsConnNumber, IsMachine, IsUnheard, Machine, Move, Node, NodeState, Out, Packet, Part, Place, Rec, Row, Seen, SpellsMessage, back_body, clocked, conn, conn_of, lose_at, machine_told, node_at, node_leaves, packet_at, part_of, passed, seen_on, timer_rows}
 use Rattle.lard_base.specs.declared.event.Event.TheVariants as event
 use Rattle.lard_law_view.proofs.Heads.{Begins}
 use Rattle.lard_law_view.proofs.Saying.{AreMessages, GaveAt, NamesNobody}
@@ -18,6 +18,10 @@ use Rattle.lard_law_view.proofs.OwnRecords.{IsDrain, IsNoClosing, behind}
 abbrev pub HasJobs : Machine → Type 0
 HasJobs m = (n : ℕ) (s : NodeState) → node_at m.nodes n ≡ Some s → AreNumbered s.disk
 
+-- INTERIM: no node leaves yet
+abbrev pub NoneLeaves : Machine → Type 0
+NoneLeaves m = (n : ℕ) (s : NodeState) → node_at m.nodes n ≡ Some s → node_leaves s ≡ false
+
 -- w is m with what a place keeps put back.
 pub record IsPut (m w : Machine) : Type 0 where
   pub config : w.config ≡ m.config
@@ -29,6 +33,7 @@ pub record IsPut (m w : Machine) : Type 0 where
   pub now : w.now ≡ m.now
   pub nodes : length w.nodes ≡ length m.nodes
   pub jobs : HasJobs m → HasJobs w
+  pub remain : NoneLeaves m → NoneLeaves w
 
 -- what a place does on one connection, whose notes are seen so
 abbrev pub move_of : Place → List Seen → List Rec → Out → Part → Move

@@ -185,7 +185,7 @@ module _ (m : Machine) (view : IsViewed m) (P : Conn → Move → Type 0) (R : R
     drain-acts i =
         let open_ : Bool = is_open m.front.dispatch.books.loads i in
         record {
-          put = record { config = refl; files = refl; net = refl; journal = refl; events = refl; answered = refl; now = refl; nodes = refl; jobs = λ h. h };
+          put = record { config = refl; files = refl; net = refl; journal = refl; events = refl; answered = refl; now = refl; nodes = refl; jobs = λ h. h; remain = λ h. h };
           machine = tt;
           begins = drains m i;
           first = own-alone (event.Drain i) (closed_note m.front.dispatch i) (cond_both open_ (rec.Closed i ∷ []) [] (AreOwn (event.Drain i)) (λ t. inl refl) (λ t. inr refl));

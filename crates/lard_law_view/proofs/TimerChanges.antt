@@ -7,7 +7,7 @@ use Rattle.std.proofs.lemmas.List.Sums.{fold-append}
 use Rattle.std.specs.List.{filter, flat_map, fold, list_all}
 use Rattle.lard_law_view.specs.Prelude.{Came, ChangesTimers, Client, Event, Front, Node, Place, Rec, Row, Seen, TimerKind, armed_step, change_of, is_change, is_change_of, is_kind, is_place, is_running, kind_change, plain, seen_step, sent_records, timer_kinds, whose}
 use Rattle.lard_base.specs.declared.event.Event.TheVariants as event
-use Rattle.lard_base.specs.declared.place.TimerKind.TheVariants.{Tcp, Offer, Ask, Fetch, Ended}
+use Rattle.lard_base.specs.declared.place.TimerKind.TheVariants.{Tcp, Offer, Ask, Fetch, Ended, Give}
 use Rattle.lard_history.proofs.Each.{Each, Each-weaker}
 use Rattle.lard_history.proofs.Lifting.{IsOwnFold}
 use Rattle.lard_history.proofs.Seeing.{by_number, other_number, same_number}
@@ -77,6 +77,7 @@ kind-is Offer Offer e = refl
 kind-is Ask Ask e = refl
 kind-is Fetch Fetch e = refl
 kind-is Ended Ended e = refl
+kind-is Give Give e = refl
 kind-is _ _ e = absurd (both_ways false refl e)
 
 not-its : (a d b : Bool) → d ≡ false → (a && (d && b)) ≡ false
@@ -159,6 +160,7 @@ module _ (p : Place) (d : ℕ) (kind : TimerKind) where
     same-kind Ask = refl
     same-kind Fetch = refl
     same-kind Ended = refl
+    same-kind Give = refl
 
   pub its-change : (was is : Bool) → AreOfChange p d kind was is (kind_change p d kind was is)
   its-change false false = record { one = refl; tells = refl }
@@ -178,11 +180,12 @@ HasOnce kind [] = ⊥
 HasOnce kind (k ∷ ks) = ((is_kind k kind ≡ true) × Each (λ j. is_kind j kind ≡ false) ks) ⊎ ((is_kind k kind ≡ false) × HasOnce kind ks)
 
 each-once : (kind : TimerKind) → HasOnce kind timer_kinds
-each-once Tcp = inl (refl, (refl, (refl, (refl, (refl, tt)))))
-each-once Offer = inr (refl, inl (refl, (refl, (refl, (refl, tt)))))
-each-once Ask = inr (refl, inr (refl, inl (refl, (refl, (refl, tt)))))
-each-once Fetch = inr (refl, inr (refl, inr (refl, inl (refl, (refl, tt)))))
-each-once Ended = inr (refl, inr (refl, inr (refl, inr (refl, inl (refl, tt)))))
+each-once Tcp = inl (refl, (refl, (refl, (refl, (refl, (refl, tt))))))
+each-once Offer = inr (refl, inl (refl, (refl, (refl, (refl, (refl, tt))))))
+each-once Ask = inr (refl, inr (refl, inl (refl, (refl, (refl, (refl, tt))))))
+each-once Fetch = inr (refl, inr (refl, inr (refl, inl (refl, (refl, (refl, tt))))))
+each-once Ended = inr (refl, inr (refl, inr (refl, inr (refl, inl (refl, (refl, tt))))))
+each-once Give = inr (refl, inr (refl, inr (refl, inr (refl, inr (refl, inl (refl, tt))))))
 
 module _ (place : Place) (c : ℕ) (was is : TimerKind → Bool) where
   -- the records of a place's timers have that of each that changed

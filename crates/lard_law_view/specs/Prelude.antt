@@ -96,6 +96,7 @@ pub use Rattle.lard_handoff_front.specs.declared.row.FrontConn.{FrontConn}
 pub use Rattle.lard_handoff_front.specs.declared.row.FrontRow.{FrontRow}
 pub use Rattle.lard_handoff_front.specs.declared.table.OnEnded.{OnEnded}
 pub use Rattle.lard_handoff_back.specs.Back.{awaits_ack, back_endpoint, offer_answer, staying}
+pub use Rattle.lard_handoff_back.specs.Leaving.{offer_decision}
 pub use Rattle.lard_handoff_back.specs.Row.{back_held, is_ended, is_gone}
 pub use Rattle.lard_handoff_back.specs.declared.row.BackConn.{BackConn}
 pub use Rattle.lard_handoff_back.specs.declared.row.BackRow.{BackRow}
@@ -146,7 +147,7 @@ pub use Rattle.lard_rules.specs.Loop.{Done, More, Step, state_of}
 unfoldable pub use Rattle.lard_rules.specs.Loop.{runs_on}
 pub use Rattle.lard_rules.specs.Machine.{IsReached, Passes, Steps, client_acted, client_goes_on, client_put, disk_at, from_place, front_acts, front_gave, front_setting, happens, is_no_job, is_no_node, limit_reached, machine_start, machine_to_client, machine_to_front, node_acts, node_at, node_gave, node_setting, passed, segments_sent, timer_at, to_place, told_rows, unless_limit}
 unfoldable pub use Rattle.lard_rules.specs.Machine.{client_acts, clocked, completes, delivered, drained, lost, machine_opened, machine_step, machine_told, machine_wrote, timer}
-pub use Rattle.lard_rules.specs.Node.{Acknowledged, Completed, Content, Fires, Forwarded, NodeDeed, NodeGets, NodePart, Offered, Tagged, again_sent, all_sent, anew, ask_kept, asked_kept, asked_sent, both_of, come_by, ended_kept, ended_sent, fetch_of, gave_by, gone, here, holds_kind, is_tag_awaited, is_unsaid, kept_after, node_acknowledged, node_armed, node_begins, node_content, node_fired, node_fired_by, node_forwarded, node_heard_by, node_offered, node_read, node_read_by, node_rests, node_rule, node_saying, node_tagged, node_timer, offered_by, reset_count, stay_after, tagged_by, taken_sent, turn_by, wants_kept, wants_sent, with_work, work_of}
+pub use Rattle.lard_rules.specs.Node.{Acknowledged, Completed, Content, Fires, Forwarded, Leaves, NodeDeed, NodeGets, NodePart, Offered, Tagged, again_sent, all_sent, anew, ask_kept, asked_kept, asked_sent, awaits_told, both_of, come_by, ended_kept, ended_sent, fetch_of, gave_by, give_kept, gives_back, goes_back_by, gone, here, holds_kind, is_tag_awaited, is_to_read, is_unsaid, kept_after, kept_back, kept_refused, may_give_back, node_acknowledged, node_armed, node_begins, node_content, node_fired, node_fired_by, node_forwarded, node_goes_back, node_heard_by, node_offered, node_read, node_read_by, node_rests, node_rule, node_saying, node_tagged, node_timer, node_turns, offered_by, refused_sent, reset_count, stay_after, tagged_by, taken_sent, told_kind, turn_back, turn_by, wants_kept, wants_sent, with_work, work_of}
 pub use Rattle.lard_rules.specs.NodePlace.{NodeSetting, aside, completed, content_bytes, content_sent, disk_step, fetched, fetched_file, hit_step, hits, node_leaves, leaves_at, no_stays, node_brought, node_deed, node_env, node_epoch_at, node_gets, node_hears, node_out, node_part, node_put, node_step, node_timers, stores_told, with_first}
 pub use Rattle.lard_rules.specs.Outs.{kind_change, nothing_done, out_of, timer_change, timer_kinds}
 pub use Rattle.lard_rules.specs.Sent.{packet_of, packets_of, sent_records}
@@ -190,5 +191,5 @@ pub use Rattle.lard_law_view.specs.Timers.{ChangesInSteps, ChangesTimers, change
 pub use Rattle.lard_law_view.specs.Truth.{Accepts, GoesOn, Hears, IsBare, IsStream, IsTrueOf, Speaks, Stands, Stream, stream_of}
 pub use Rattle.lard_law_view.specs.Truthful.{IsTrueAfter, MayAccept, Talk}
 pub use Rattle.lard_law_view.specs.Epochs.{IsOnceAway, IsOnceHere, IsOnceOver}
-pub use Rattle.lard_law_view.specs.View.{AreBetween, AreNumbered, AreSent, ClientRules, Conn, FrontRules, GoesBetween, GoesBy, IsConnSound, IsForFront, IsForNode, IsForOtherNode, IsFrontEnv, IsMachine, IsNobody, IsNodeEnv, IsUnheard, IsViewed, Move, NodeRules, Part, Rules, Setting, SpellsMessage, TurnSaid, UntouchedRules, Was, back_body, blank_conn, brought_said, by_client, by_front, by_node, client_begins, client_does, content_said, epoch_in, event_seen, front_admits, front_does, grown, inject_seen, kept_at, which_leave, letter, letters_of, named_records, node_does, node_put_back, nothing_kept, nothing_said, packet_seen, reads_first, rows_of, seen_in, setting_of, stands, station_armed, with_front, with_leaving, with_node, with_station}
+pub use Rattle.lard_law_view.specs.View.{AreBetween, AreNumbered, AreSent, ClientRules, Conn, FrontRules, GoesBetween, GoesBy, IsConnSound, IsForFront, IsForNode, IsForOtherNode, IsFrontEnv, IsMachine, IsNobody, IsNodeEnv, IsUnheard, IsViewed, Move, NodeRules, Part, Rules, Setting, SpellsMessage, TurnSaid, UntouchedRules, Was, ack_body, back_body, blank_conn, brought_said, by_client, by_front, by_node, client_begins, client_does, content_said, epoch_in, event_seen, front_admits, front_does, grown, inject_seen, kept_at, letter, letters_of, named_records, node_does, node_put_back, nothing_kept, nothing_said, packet_seen, reads_first, rows_of, seen_in, setting_of, stands, station_armed, which_leave, with_front, with_leaving, with_node, with_station}
 unfoldable pub use Rattle.lard_law_view.specs.View.{conn, part_of, timer_rows}

@@ -38,7 +38,7 @@ use Rattle.lard_rules.specs.declared.node.NodeTurn.{NodeTurn}
 use Rattle.lard_rules.specs.Node as node
 use Rattle.lard_rules.specs.Node.{NodePart, message, node_acknowledged, node_content, node_forwarded, node_offered, node_read, node_tagged, node_timer}
 use Rattle.lard_rules.specs.NodePlace as node_place
-use Rattle.lard_rules.specs.NodePlace.{content_bytes, leaves_at, node_part}
+use Rattle.lard_rules.specs.NodePlace.{content_bytes, leaves_at, node_leaves, node_part}
 use Rattle.lard_rules.specs.Stay.{NodeEnv}
 pub use Rattle.lard_law_view.specs.Sending.{sending}
 use Rattle.lard_policy.specs.declared.first.FirstChoice.{FirstChoice}
@@ -182,6 +182,7 @@ IsForNode kind.Offer = Unit {0}
 IsForNode kind.Forward = Unit {0}
 IsForNode kind.Tag = Unit {0}
 IsForNode kind.EndedAck = Unit {0}
+IsForNode kind.Given = Unit {0}
 IsForNode _ = ⊥
 
 abbrev pub IsForFront : Kind → Type 0
@@ -290,6 +291,7 @@ pub record IsNodeEnv (k : Setting) (c n epoch : ℕ) (env : NodeEnv) : Type 0 wh
   pub node : env.n ≡ n
   pub epoch_is : env.epoch ≡ epoch
   pub leaves : env.leaving ≡ k.leaving n
+  pub remains : env.leaving ≡ false  -- INTERIM: no node leaves yet
 
 -- the epoch of the connection's stay at a node, if it is here or its end is not acknowledged
 abbrev pub epoch_in : NodePart → ℕ
@@ -303,6 +305,11 @@ SpellsMessage c epoch b bytes = decoded_message bytes ≡ Ok (record { c = c; ep
 abbrev pub back_body : Option EndpointParts → Body
 back_body None = body.Refused
 back_body (Some parts) = body.Give parts
+
+-- what answers that a stay is over: that it ended, or went back
+abbrev pub ack_body : Bool → Body
+ack_body false = body.EndedAck
+ack_body true = body.Given
 
 -- P is so of each move of a client's rule
 pub record ClientRules (k : Setting) (P : Conn → Move → Type 0) : Type 0 where
@@ -349,8 +356,9 @@ pub record NodeRules (k : Setting) (P : Conn → Move → Type 0) : Type 0 where
       → P x (node_does x n (packet_seen Front (Node n) bytes) (node_tagged env (x.part.nodes n) number nodes))
   pub content : (x : Conn) (n from epoch r : ℕ) (env : NodeEnv) (file bytes : List ℕ) → IsNodeEnv k x.c n epoch env → SpellsMessage x.c epoch (body.Content r file) bytes → Was x (Node from) (Node n) bytes
       → P x (node_does x n (packet_seen (Node from) (Node n) bytes) (node_content env (x.part.nodes n) from r))
-  pub acknowledged : (x : Conn) (n epoch : ℕ) (env : NodeEnv) (bytes : List ℕ) → IsNodeEnv k x.c n epoch env → SpellsMessage x.c epoch body.EndedAck bytes → Was x Front (Node n) bytes
-      → P x (node_does x n (packet_seen Front (Node n) bytes) (node_acknowledged env (x.part.nodes n)))
+  pub acknowledged : (x : Conn) (n epoch : ℕ) (back : Bool) (env : NodeEnv) (bytes : List ℕ) → IsNodeEnv k x.c n epoch env
+      → SpellsMessage x.c epoch (ack_body back) bytes → Was x Front (Node n) bytes
+      → P x (node_does x n (packet_seen Front (Node n) bytes) (node_acknowledged env back (x.part.nodes n)))
   pub read : (x : Conn) (n epoch r : ℕ) (env : NodeEnv) (path : List ℕ) → IsNodeEnv k x.c n epoch env
       → P x (reads_first (rec.Read n n x.c r path) (node_does x n [] (node_read env (x.part.nodes n) r)))
   pub fires : (x : Conn) (s : Station) (n : ℕ) (env : NodeEnv) → x.part.station ≡ Some s → IsNodeEnv k x.c n (epoch_in (x.part.nodes n)) env
@@ -421,3 +429,4 @@ pub record IsViewed (m : Machine) : Type 0 where
   pub told : net_of m.journal ≡ m.net
   pub nodes : length m.nodes ≡ m.config.nodes
   pub jobs : (n : ℕ) (s : NodeState) → node_at m.nodes n ≡ Some s → AreNumbered s.disk
+  pub remain : (n : ℕ) (s : NodeState) → node_at m.nodes n ≡ Some s → node_leaves s ≡ false  -- INTERIM: no node leaves yet

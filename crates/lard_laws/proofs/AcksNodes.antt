@@ -1,7 +1,7 @@
 -- What a node does acknowledges what was taken.
-use Rattle.std.proofs.Common.{◌≡◌, ◌≢◌, ◌⊎◌, ◌≤◌, ◌<◌, ◌^◌, nat_lt, ℕ, Bool, true, false, List, [], ◌∷◌, ◌++◌, map, Option, Some, None, Ok, inr, ⊎_elim, refl, sym, ap, ◌∙◌, subst, arith}
+use Rattle.std.proofs.Common.{◌≡◌, ◌≢◌, ◌≤◌, ◌<◌, ◌^◌, nat_lt, ℕ, Bool, true, false, List, [], ◌∷◌, ◌++◌, map, Option, Some, None, Ok, inr, ⊎_elim, refl, sym, ap, ◌∙◌, subst, arith}
 use Rattle.std.proofs.lemmas.Bool.{ltb-true, ltb-false}
-use Rattle.lard_law_view.specs.Prelude.{Asked, BackRow, Conn, ControlBlock, Ending, EndpointParts, Front, FrontConn, FrontRow, IsConnNumber, IsConnSound, IsNodeEnv, IsStream, IsWord, Move, Node, NodeDeed, NodeEnv, NodeGets, NodePart, Part, Place, Progress, Ready, Said as Segment, Seen, ServeEnv, Service, Setting, SpellsMessage, Station, Stay, Stream, Talk, Turn, Verdict, Want, Was, Work, adopted, after_timer, again_sent, asked_sent, came_for, come_progress, ended_sent, filled, goes_on, gone, here, kept_after, letter, node_begins, node_does, node_fired, node_put_back, node_saying, offer_answer, offered_by, on_segment, read_progress, reads_batch, reset_count, serving, serving_ready_of, serving_settled, speaks, spoken, state_of, tagged, taken_sent, tale_at, timed, turn_by, wants_sent, with_node, with_work, without, work_of}
+use Rattle.lard_law_view.specs.Prelude.{Asked, BackRow, Conn, ControlBlock, Ending, EndpointParts, Front, FrontConn, FrontRow, IsConnNumber, IsConnSound, IsNodeEnv, IsStream, IsWord, Move, Node, NodeDeed, NodeEnv, NodeGets, NodePart, Part, Place, Progress, Ready, Said as Segment, Seen, ServeEnv, Service, Setting, SpellsMessage, Station, Stay, Stream, Talk, Turn, Verdict, Want, Was, Work, adopted, after_timer, again_sent, all_sent, asked_sent, came_for, come_progress, ended_sent, filled, give_kept, gives_back, goes_on, gone, here, kept_after, kept_back, kept_refused, letter, node_begins, node_does, node_fired, node_put_back, node_saying, offer_answer, offered_by, on_segment, parts_of, read_progress, reads_batch, refused_sent, reset_count, sent_of, serving, serving_ready_of, serving_settled, speaks, spoken, state_of, tagged, taken_sent, tale_at, timed, told_kind, turn_back, turn_by, wants_sent, with_node, with_work, without, work_of}
 use Rattle.lard_base.specs.declared.place.TimerKind.TheVariants as timer
 use Rattle.lard_laws.specs.Acks.{ActsWithin, BackActs, BackStageActs, Bounds, EndActs, FrontActs, FrontBodyActs, FrontStageActs, LetterActs, PartsAct}
 use Rattle.lard_laws.proofs.AcksFronts as fronts
@@ -34,7 +34,7 @@ use Rattle.lard_law_view.proofs.EndpointReading.{Reads, Spans}
 use Rattle.lard_law_view.proofs.EndpointActs.{settled-acts, spoken-acts}
 use Rattle.lard_law_view.proofs.EndpointSaying.{timed-may, timer-left}
 use Rattle.lard_message.specs.declared.message.Body.TheVariants as body
-use Rattle.lard_rules.proofs.NodeCases.{IsHereWith, IsInItsEpoch, KeptByNode, node-keeps, of-here}
+use Rattle.lard_rules.proofs.NodeCases.{IsHereWith, IsOfItsEpoch, KeptByNode, Turned, node-keeps, of-here}
 use Rattle.lard_rules.specs.Node.{Drops, Says, Does}
 use Rattle.lard_rules.specs.declared.places.Ending.TheVariants as ending
 use Rattle.lard_rules.proofs.Endings.{rested-keeps, settled-keeps}
@@ -177,6 +177,16 @@ module _ (k : Setting) (small : k.stream ≤ 2 ^ 30) (x : Conn) (number : IsConn
       taken-tells : (b : Bounds) (q : Part) → Tells b q (taken_sent env)
       taken-tells b q = (other-node b q x.c n env.serve.c env.epoch body.Taken (λ i. cc), tt)
 
+      refused-tells : (b : Bounds) (q : Part) → Tells b q (refused_sent env)
+      refused-tells b q = (other-node b q x.c n env.serve.c env.epoch body.Refused (λ i. cc), tt)
+
+      all-tell : (b : Bounds) (q : Part) (before : List (Place × List ℕ)) (work : Work) → Tells b q before → Tells b q (all_sent env before work)
+      all-tell b q before work first = tells-append b q (before ++ asked_sent env work.asked) (wants_sent env work.wants)
+          (tells-append b q before (asked_sent env work.asked) first (asked-tells b q work.asked)) (wants-tell b q work.wants)
+
+      give-tells : (b : Bounds) (q : Part) (work : Work) → Tells b q (sent_of (give_kept env work) ∷ [])
+      give-tells b q work = (other-node b q x.c n env.serve.c env.epoch (body.Give (parts_of work.service.block work.service.count)) (λ i. cc), tt)
+
       ended-tells : (b : Bounds) (q : Part) (over : Option ℕ) (e : Ending) → EndFits e → EndActs b e → Tells b q (ended_sent env over e)
       ended-tells b q over (ending.Here block count) fits act = tt
       ended-tells b q over (ending.Over last) fits act = (ended-acts b q x.c n env.serve.c env.epoch (reset_count over) last fits.0 fits.1 act, tt)
@@ -193,11 +203,10 @@ module _ (k : Setting) (small : k.stream ≤ 2 ^ 30) (x : Conn) (number : IsConn
       Turns given = ServingActed env.serve.c l.w.first s.iss (Acked.taken_by s.client) aborted heard_so given
 
       -- where the connection is here, each Offer is decided behind its turn
-      all-decided : IsHere n env.epoch → (p : NodePart) (w : Work) (e : Ending) (m d : ℕ) → IsOffered m d x.part.front.row → IsDecided d (node_put_back nodes n (kept_after env p w e) m).row
-      all-decided it p w e m d offered =
-          let q : NodePart = kept_after env p w e in
+      all-decided : IsHere n env.epoch → (q : NodePart) → ((d : ℕ) → d ≤ env.epoch → IsDecided d q.row) → (m d : ℕ) → IsOffered m d x.part.front.row → IsDecided d (node_put_back nodes n q m).row
+      all-decided it q decided m d offered =
           let at = it.offered m d offered in
-          subst (λ (j : ℕ). IsDecided d (node_put_back nodes n q j).row) (sym at.0) (subst (λ (r : NodePart). IsDecided d r.row) (sym (put-same nodes n q)) (row-decided p w e d at.1))
+          subst (λ (j : ℕ). IsDecided d (node_put_back nodes n q j).row) (sym at.0) (subst (λ (r : NodePart). IsDecided d r.row) (sym (put-same nodes n q)) (decided d at.1))
 
       -- a turn of the node that has it
       turn-act : IsHere n env.epoch → (part : NodePart) (before : List (Place × List ℕ)) (work : Work) (given : Ending × Turn) → Turns given → EndFits given.0
@@ -211,16 +220,31 @@ module _ (k : Setting) (small : k.stream ≤ 2 ^ 30) (x : Conn) (number : IsConn
           record {
             then = heard_at l.w.first given.0;
             more = act.grows;
-            offers = inr (all-decided it part work given.0);
+            offers = inr (all-decided it q (row-decided part work given.0));
             ends = inr it.over;
             front = it.front then;
             nodes = put-each nodes n q (λ m r. BackActs then r.row) (row-acts then part work given.0 ends) (λ m other. it.others then m other);
             letters = Each-append (LetterActs x.c then v.part) (map (letter (Node n)) given.1.segments) (map (letter (Node n)) (turn_by env before work given).messages)
                 (replies-act x.c then v.part (Node n) given.1.segments (subst (λ (c : ℕ). RepliesMay c l.w.first (heard_at l.w.first given.0) given.1.segments) is.number act.sent))
-                (tells-append then v.part (before ++ asked_sent env work.asked ++ wants_sent env work.wants) (ended_sent env work.service.over given.0)
-                (tells-append then v.part (before ++ asked_sent env work.asked) (wants_sent env work.wants)
-                (tells-append then v.part before (asked_sent env work.asked) first (asked-tells then v.part work.asked)) (wants-tell then v.part work.wants))
+                (tells-append then v.part (all_sent env before work) (ended_sent env work.service.over given.0)
+                (all-tell then v.part before work first)
                 (ended-tells then v.part work.service.over given.0 fits ends));
+          }
+
+      -- or the connection goes back, and all that its endpoint took is taken
+      back-act : IsHere n env.epoch → (part : NodePart) (before : List (Place × List ℕ)) (work : Work) → GoesOver work.service.block → ((b : Bounds) (q : Part) → Tells b q before) → Stays (gives_back env part before work)
+      back-act it part before work goes first =
+          let q : NodePart = kept_back env part work in
+          let v : Move = node_does x n heads (Does (q, turn_back env before work)) in
+          let then : Bounds = record bounds { heard = heard_by work.service.block.recv } in
+          record {
+            then = heard_by work.service.block.recv;
+            more = goes.0;
+            offers = inr (all-decided it q (λ d le. le));
+            ends = inr it.over;
+            front = it.front then;
+            nodes = put-each nodes n q (λ m r. BackActs then r.row) tt (λ m other. it.others then m other);
+            letters = tells-append then v.part (all_sent env before work) (sent_of (give_kept env work) ∷ []) (all-tell then v.part before work (first then v.part)) (give-tells then v.part work);
           }
 
       works-act : IsHere n env.epoch → (part : NodePart) (before : List (Place × List ℕ)) (work : Work) → GoesOver work.service.block → ((b : Bounds) (q : Part) → Tells b q before) → Stays (with_work env part before work)
@@ -242,8 +266,10 @@ module _ (k : Setting) (small : k.stream ≤ 2 ^ 30) (x : Conn) (number : IsConn
       keeps : (b : ControlBlock) → KeptByServing env.serve (From b)
       keeps b = stay-keeps l.w s.iss b env.serve within
 
-      goes-act : IsHere n env.epoch → (part : NodePart) (b : ControlBlock) (work : Work) → GoesOver b → From b work.service → Stays (with_work env part [] (goes_on env work))
-      goes-act it part b work goes from = works-act it part [] (goes_on env work) (reads-act b (goes_on env work).service goes (goes-so env (From b) (keeps b) work from)) (λ b q. tt)
+      goes-act : IsHere n env.epoch → (part : NodePart) (b : ControlBlock) (work : Work) → GoesOver b → From b work.service → Turned Stays env part [] (goes_on env work)
+      goes-act it part b work goes from =
+          let on : GoesOver (goes_on env work).service.block = reads-act b (goes_on env work).service goes (goes-so env (From b) (keeps b) work from) in
+          (λ rests. works-act it part [] (goes_on env work) on (λ b q. tt), λ back. back-act it part [] (goes_on env work) on (λ b q. tt))
 
       -- as it is
       from-here : (b : ControlBlock) (t : Stay) → GoesOver b → From b (work_of b t).service
@@ -252,7 +278,7 @@ module _ (k : Setting) (small : k.stream ≤ 2 ^ 30) (x : Conn) (number : IsConn
       -- ---- a segment that was forwarded
 
       heard-act : (sd : Segment) → IsWord l.w sd → WordMay s.iss (Acked.taken_by s.client) aborted sd → (b : ControlBlock) (t : Stay) → HasIt n env.epoch b
-          → Stays (with_work env ours [] (goes_on env (work_of (on_segment b sd).1 t)))
+          → Turned Stays env ours [] (goes_on env (work_of (on_segment b sd).1 t))
       heard-act sd word may b t it =
           let goes : GoesOver b = it.goes in
           let iss : s.iss ≡ b.send.iss = sym goes.1.1 ∙ ap (λ (z : Stream). z.first) goes.1.2.out_is in
@@ -272,7 +298,7 @@ module _ (k : Setting) (small : k.stream ≤ 2 ^ 30) (x : Conn) (number : IsConn
       -- ---- a content, a job
 
       came-act : (part : NodePart) (f : Progress → Progress) (r : ℕ) (b : ControlBlock) (t : Stay) → HasIt n env.epoch b
-          → Stays (with_work env part [] (goes_on env (came_for f r (work_of b t))))
+          → Turned Stays env part [] (goes_on env (came_for f r (work_of b t)))
       came-act part f r b t it = goes-act it.here_is part b (came_for f r (work_of b t)) it.goes
           (came-so env (From b) (keeps b) f r (work_of b t) (from-here b t it.goes))
 
@@ -282,9 +308,9 @@ module _ (k : Setting) (small : k.stream ≤ 2 ^ 30) (x : Conn) (number : IsConn
       gone-acts None = tt
       gone-acts (Some row) = tt
 
-      gone-act : Stays (Does (record ours { row = gone ours.row; kept = without timer.Ended 0 ours.kept }, node_saying []))
-      gone-act =
-          let q : NodePart = record ours { row = gone ours.row; kept = without timer.Ended 0 ours.kept } in
+      gone-act : (back : Bool) → Stays (Does (record ours { row = gone ours.row; kept = without (told_kind back) 0 ours.kept }, node_saying []))
+      gone-act back =
+          let q : NodePart = record ours { row = gone ours.row; kept = without (told_kind back) 0 ours.kept } in
           idle-acts x (node_does x n heads (Does (q, node_saying []))) bounds (record {
             front = h.front;
             nodes = put-each nodes n q (λ m r. BackActs bounds r.row) (gone-acts ours.row) (λ m other. h.nodes m);
@@ -315,7 +341,7 @@ module _ (k : Setting) (small : k.stream ≤ 2 ^ 30) (x : Conn) (number : IsConn
           (record {
             widens = record { isn = refl; iss = refl; heard = act.grows; taken = omega arith; aborted = λ e. e };
             grows = grows;
-            offers = inr (all-decided it.here_is ours (work_of (after_timer b) t) given.0);
+            offers = inr (all-decided it.here_is (kept_after env ours (work_of (after_timer b) t) given.0) (row-decided ours (work_of (after_timer b) t) given.0));
             ends = inr it.here_is.over;
           })
           (map (letter (Node n)) (again_sent ours)) (again-letters (LetterMay x.part) x sound_x at_place.letters n) again-tells)
@@ -360,32 +386,48 @@ module _ (k : Setting) (small : k.stream ≤ 2 ^ 30) (x : Conn) (number : IsConn
             took-act (offered-acts bounds x.part x.c n epoch parts acted f.row f.found (sym sits.1 ∙ f.epoch_is) f.undecided)
             (subst (IsHere n) now it) (offered-between l pend parts of)
 
+      -- an Offer is refused
+      refused-act : Stays (Does (kept_refused env ours, node_saying (refused_sent env)))
+      refused-act =
+          let q : NodePart = kept_refused env ours in
+          idle-acts x (node_does x n heads (Does (q, node_saying (refused_sent env)))) bounds (record {
+            front = h.front;
+            nodes = put-each nodes n q (λ m r. BackActs bounds r.row) (h.nodes n) (λ m other. h.nodes m);
+            letters = refused-tells bounds (with_node x.part n q);
+          })
+
       -- ---- every rule
 
       -- as long as the connection's part grows
       abbrev Acts : NodeDeed → Type 0
       Acts d = Grows x.part (node_does x n heads d).part → Stays d
 
+      -- however it grows
+      once : (part : NodePart) (work : Work) → Turned Stays env part [] work → Turned Acts env part [] work
+      once part work turned = (λ rests grows. turned.0 rests, λ back grows. turned.1 back)
+
       rules_act : KeptByNode env ours (NodeComes x n epoch heads) Acts
       rules_act = record {
         drops = λ grows. dropped;
-        hears = λ sd b t m at grows. heard-act sd (forwarded-word k.files x s l pend o n epoch heads sd m) (forwarded-may sd m) b t
-            (here-has n env.epoch b t at);
-        tags = λ number tags b t m at asked same count grows.
+        hears = λ sd b t m at. once ours (goes_on env (work_of (on_segment b sd).1 t)) (heard-act sd (forwarded-word k.files x s l pend o n epoch heads sd m) (forwarded-may sd m) b t
+            (here-has n env.epoch b t at));
+        tags = λ number tags b t m at asked same count.
             let it : HasIt n env.epoch b = here-has n env.epoch b t at in
-            goes-act it.here_is (record ours { kept = without timer.Ask 0 ours.kept }) b (tagged env tags (work_of b t)) it.goes
-            (tagged-so env (From b) (keeps b) tags (work_of b t) (from-here b t it.goes));
-        comes = λ from r b t m at wanted grows. came-act (record ours { fetches = without timer.Fetch r ours.fetches }) (come_progress from) r b t
-            (here-has n env.epoch b t at);
-        reads = λ r path b t m at grows. came-act ours read_progress r b t (here-has n env.epoch b t at);
-        begins = λ parts m new grows. new-act parts m.bytes m.spells m.was (ap (λ e. offer_answer e ours.row) (sym is.epoch_is) ∙ new);
+            once (record ours { kept = without timer.Ask 0 ours.kept }) (goes_on env (tagged env tags (work_of b t))) (goes-act it.here_is (record ours { kept = without timer.Ask 0 ours.kept }) b (tagged env tags (work_of b t)) it.goes
+            (tagged-so env (From b) (keeps b) tags (work_of b t) (from-here b t it.goes)));
+        comes = λ from r b t m at wanted. once (record ours { fetches = without timer.Fetch r ours.fetches }) (goes_on env (came_for (come_progress from) r (work_of b t))) (came-act (record ours { fetches = without timer.Fetch r ours.fetches }) (come_progress from) r b t
+            (here-has n env.epoch b t at));
+        reads = λ r path b t m at. once ours (goes_on env (came_for read_progress r (work_of b t))) (came-act ours read_progress r b t (here-has n env.epoch b t at));
+        begins = λ parts m new may grows. new-act parts m.bytes m.spells m.was (ap (λ e. offer_answer e ours.row) (sym is.epoch_is) ∙ new);
         takes_again = λ parts m again grows. says (taken_sent env) (taken-tells bounds x.part);
+        refuses = λ parts m is grows. refused-act;
         fires = λ b t m at. here-fires b t (here-has n env.epoch b t at);
         resends = λ m none grows. says (again_sent ours) again-tells;
-        ends = λ m told grows. gone-act;
+        ends = λ back m told was grows. gone-act back;
+        leaves = λ b t m at back grows. let it : HasIt n env.epoch b = here-has n env.epoch b t at in back-act it.here_is ours [] (work_of b t) it.goes (λ b q. tt);
       }
 
-      pub rule-act : (g : NodeGets) → IsInItsEpoch env ours g → NodeComes x n epoch heads g → Grows x.part (node_goes x n env heads g).part
+      pub rule-act : (g : NodeGets) → IsOfItsEpoch env ours g → NodeComes x n epoch heads g → Grows x.part (node_goes x n env heads g).part
           → PlaceActs x (node_goes x n env heads g) bounds
       rule-act g at comes grows =
           let p = node-keeps env ours (NodeComes x n epoch heads) Acts rules_act g at comes grows in

@@ -125,7 +125,7 @@ module _ (files : FilesAt) (x : Conn) (number : IsConnNumber x.c) (at_place : Is
         count = offering.count;
         frozen = offering.frozen;
         holds = offering.holds;
-        same = offers-read x.c row.epoch.0 l.w l.out l.vs pend offering.block offering.count number (let early = early-at x at_place row found (stage.Offering m d) at in omega (arith, early)) is_stream offering.holds offering.frozen _ parts (ap decoded_message spelled ∙ spells) refl;
+        same = offers-read x.c row.epoch.0 l.w l.out l.vs pend offering.block offering.count number (let early = early-at x at_place row found in omega (arith, early)) is_stream offering.holds offering.frozen _ parts (ap decoded_message spelled ∙ spells) refl;
       }
 
   pub new-is : offer_answer epoch (nodes n).row ≡ New → IsOfferOf l pend parts

@@ -2,6 +2,7 @@
 use Rattle.std.proofs.Common.{◌≡◌, ◌≤◌, ◌^◌, ℕ, false, List, Some, refl, sym, ap, ◌∙◌, subst}
 use Rattle.std.proofs.Math.Bool.{or-false}
 use Rattle.lard_base.specs.declared.event.Event.TheVariants as event
+use Rattle.lard_base.proofs.Usable.{usable}
 use Rattle.lard_law_view.specs.Prelude.{Conn, Front, FrontRules, IsUntouchedLaw, MayRestOn, Move, Node, NodeRules, Place, Seen, Setting, Station, Stream, TurnSaid as SaidIn, Untouched, UntouchedRules, event_seen, front_does, grown, letters_of, nothing_said, packet_seen, setting, stands, tale_at, with_leaving}
 use Rattle.lard_laws.specs.Acks.{AcksWhatWasTaken, ActsWithin, Bounds, LetterActs, OpenActs, bounds_of, story_at}
 use Rattle.lard_laws.specs.AcksLaws.{ConnectionsAckWhatWasTaken}
@@ -82,7 +83,7 @@ module _ (k : Setting) (small : k.stream ≤ 2 ^ 30) where
         ∙ of-heads x n (λ (ss : List Seen). story_seen x.c (story_at x) ss ≡ story_at x) (λ from bytes. refl) refl (timer-plain x (Node n)) epoch heads g comes)
         (node-station x n heads d) (λ help t at h o heard within.
         rule-act k small x help.number help.sound help.placed t h.talk h.pend o heard (story_at x).aborted within
-        n epoch env is heads g its comes help.owes.grows);
+        n epoch env is heads g its.0 comes help.owes.grows);
     aside = λ x n a may. stands-rule x (Node n) (aside_seen n a) (aside_said k n x.c a)
         (of-aside x n (λ (ss : List Seen). story_seen x.c (story_at x) ss ≡ story_at x) (λ from bytes. refl) refl a)
         (λ b. aside-letters (LetterActs x.c b x.part) (λ n to bytes. tt) k x n a);
@@ -125,7 +126,8 @@ module _ (k : Setting) (small : k.stream ≤ 2 ^ 30) where
 
 -- In every state that events lead to.
 pub connections-ack : ConnectionsAckWhatWasTaken
-connections-ack config files small =
+connections-ack config files checked =
     let k : Setting = setting config files in
+    let small : k.stream ≤ 2 ^ 30 = (usable config checked).stream in
     carried config files (Given k small) (Untouched AcksWhatWasTaken) (λ l. untouched-law (with_leaving k l) (Given k small) AcksWhatWasTaken (acks-law (with_leaving k l) small))
-    (λ m r q. (each-placed config files m r q, states-truthful config files small m r q))
+    (λ m r q. (each-placed config files checked m r q, states-truthful config files checked m r q))

@@ -1,16 +1,16 @@
 -- Each rule of a node, by the Asks that it sends.
 use Rattle.std.proofs.Common.{◌≡◌, ◌<◌, ◌^◌, ℕ, ◌+◌, true, List, [], ◌++◌, length, map, Option, Some, None, refl, sym, ap, ◌∙◌, subst, arith, append-nil}
 use Rattle.std.proofs.lemmas.List.{map-append}
-use Rattle.lard_law_view.specs.Prelude.{BackRow, Client, ControlBlock, Ending, EndpointParts, NodeDeed, NodeEnv, NodeGets, NodePart, Offered, Place, Stay, Turn, Work, after_timer, again_sent, came_for, come_progress, epoch_in, goes_on, gone, node_begins, node_fired, node_rule, offer_answer, on_segment, read_progress, reads_batch, sent_of, serving, serving_ready_of, serving_settled, spoken, state_of, tagged, taken_sent, timed, turn_by, with_work, without, work_of}
+use Rattle.lard_law_view.specs.Prelude.{BackRow, Client, ControlBlock, Ending, EndpointParts, NodeDeed, NodeEnv, NodeGets, NodePart, Offered, Place, Stay, Turn, Work, after_timer, again_sent, came_for, come_progress, epoch_in, gives_back, goes_on, gone, kept_refused, node_begins, node_fired, node_rule, offer_answer, on_segment, read_progress, reads_batch, refused_sent, sent_of, serving, serving_ready_of, serving_settled, spoken, state_of, tagged, taken_sent, timed, told_kind, turn_by, with_work, without, work_of}
 use Rattle.lard_base.specs.declared.place.TimerKind.TheVariants as timer
 use Rattle.lard_laws.specs.AsksSent.{IsAskNumbered}
-use Rattle.lard_laws.proofs.AsksSending.{IsLast, IsNoAsk, Outcome, PartAsks, RowAsks, StageAsks, again-outcome, asks_in, filter-each, in-append, keeps-none, kept-again, none-outcome, taken-unsent, turn-asks, turn-outcome, unasked-part}
-use Rattle.lard_laws.proofs.AsksWorking.{batch-state, came-idle, goes-so, idle-asking, tagged-idle}
+use Rattle.lard_laws.proofs.AsksSending.{IsLast, IsNoAsk, Outcome, PartAsks, RowAsks, StageAsks, again-outcome, asks_in, back-outcome, filter-each, in-append, keeps-none, kept-again, none-outcome, refused-unsent, taken-unsent, turn-asks, turn-outcome, unasked-part}
+use Rattle.lard_laws.proofs.AsksWorking.{IsAsking, batch-state, came-idle, goes-so, idle-asking, tagged-idle}
 use Rattle.lard_law_connections.proofs.PlacesLoops.{settled-is, spoken-to}
 use Rattle.lard_handoff_back.specs.declared.row.BackConn.TheVariants as back
 use Rattle.lard_handoff_back.specs.declared.table.Adopt.TheVariants.{New}
 use Rattle.lard_history.proofs.Each.{Each}
-use Rattle.lard_rules.proofs.NodeCases.{IsHereWith, IsInItsEpoch, KeptByNode, node-keeps, of-here}
+use Rattle.lard_rules.proofs.NodeCases.{IsHereWith, IsOfItsEpoch, KeptByNode, Turned, node-keeps, of-here}
 use Rattle.lard_rules.specs.Node.{Drops, Says, Does}
 use Rattle.lard_law_view.proofs.EndpointSends.{AllTo, ready-to}
 
@@ -46,6 +46,15 @@ module _ (c n : ℕ) (last : ℕ → Option (List ℕ)) (env : NodeEnv) (number 
           turn-outcome c n last env number (small b s at) part [] (goes_on env w) (serving_settled env.serve (goes_on env w).service) s.asks (goes-so env s.asks w (idle-asking env s.asks w idle)) (λ e. refl) kept fetches known.fresh known.counted,
           (settled-is env.serve (goes_on env w).service).to,
         )
+
+    -- or the connection goes back
+    backs : (part : NodePart) (b : ControlBlock) (s : Stay) → IsHereWith env.epoch p b s → (w : Work) → IsAsking env s.asks w → DeedAsks (gives_back env part [] w)
+    backs part b s at w asking = let known : HereAsks s = here-asks b s at in (back-outcome c n last env number (small b s at) part [] w s.asks asking (λ e. refl) known.fresh known.counted, tt)
+
+    ends-asks : (part : NodePart) → Each (IsLast last) part.kept → Each IsNoAsk part.fetches → (b : ControlBlock) (s : Stay) → IsHereWith env.epoch p b s
+        → (w : Work) → (w.asked ≡ None) × (w.asks ≡ s.asks) → Turned DeedAsks env part [] (goes_on env w)
+    ends-asks part kept fetches b s at w idle =
+        (λ rests. works part kept fetches b s at w idle, λ back. backs part b s at (goes_on env w) (goes-so env s.asks w (idle-asking env s.asks w idle)))
 
     -- ---- its timer fires: what is kept is sent again
 
@@ -106,25 +115,30 @@ module _ (c n : ℕ) (last : ℕ → Option (List ℕ)) (env : NodeEnv) (number 
     rules_ask : KeptByNode env p MayAsk DeedAsks
     rules_ask = record {
       drops = tt;
-      hears = λ said b s m at. works small p h.kept h.fetches b s at (work_of (on_segment b said).1 s) (refl, refl);
+      hears = λ said b s m at. ends-asks small p h.kept h.fetches b s at (work_of (on_segment b said).1 s) (refl, refl);
       tags = λ number nodes b s m at asked same count.
-          works small (record p { kept = without timer.Ask 0 p.kept }) (filter-each (IsLast last) _ p.kept h.kept) h.fetches b s at
+          ends-asks small (record p { kept = without timer.Ask 0 p.kept }) (filter-each (IsLast last) _ p.kept h.kept) h.fetches b s at
           (tagged env nodes (work_of b s)) (tagged-idle env s.asks nodes (work_of b s) (refl, refl));
       comes = λ from r b s m at wanted.
-          works small (record p { fetches = without timer.Fetch r p.fetches }) h.kept (filter-each IsNoAsk _ p.fetches h.fetches) b s at
+          ends-asks small (record p { fetches = without timer.Fetch r p.fetches }) h.kept (filter-each IsNoAsk _ p.fetches h.fetches) b s at
           (came_for (come_progress from) r (work_of b s)) (came-idle env s.asks (come_progress from) r (work_of b s) (refl, refl));
       reads = λ r path b s m at.
-          works small p h.kept h.fetches b s at (came_for read_progress r (work_of b s)) (came-idle env s.asks read_progress r (work_of b s) (refl, refl));
-      begins = λ parts m new. begins parts (m new);
+          ends-asks small p h.kept h.fetches b s at (came_for read_progress r (work_of b s)) (came-idle env s.asks read_progress r (work_of b s) (refl, refl));
+      begins = λ parts m new may. begins parts (m new);
       takes_again = λ parts m again waiting. none-outcome c n last waiting (taken_sent env) p (taken-unsent c n last env number) h;
+      refuses = λ parts m is. (
+        none-outcome c n last (env.queue + 0) (refused_sent env) (kept_refused env p) (refused-unsent c n last env number) (record { fresh = h.fresh; kept = h.kept; fetches = h.fetches; stay = h.stay }),
+        tt,
+      );
       fires = λ b s m at. fires small b s at;
       resends = λ m none waiting. again-outcome c n last waiting (again_sent p) p (again-asks small) h;
-      ends = λ m told. (
-        none-outcome c n last (env.queue + 0) [] (record p { row = gone p.row; kept = without timer.Ended 0 p.kept }) (λ e. refl)
+      ends = λ back m told was. (
+        none-outcome c n last (env.queue + 0) [] (record p { row = gone p.row; kept = without (told_kind back) 0 p.kept }) (λ e. refl)
             (record { fresh = λ e less. h.fresh e (subst (λ (d : ℕ). d < e) (gone-epoch p.row) less); kept = filter-each (IsLast last) _ p.kept h.kept; fetches = h.fetches; stay = gone-asks p.row }),
         tt,
       );
+      leaves = λ b s m at back. backs small p b s at (work_of b s) (idle-asking env s.asks (work_of b s) (refl, refl));
     }
 
-    pub rule-asks : (g : NodeGets) → IsInItsEpoch env p g → MayAsk g → DeedAsks (node_rule env p g)
+    pub rule-asks : (g : NodeGets) → IsOfItsEpoch env p g → MayAsk g → DeedAsks (node_rule env p g)
     rule-asks g at m = node-keeps env p MayAsk DeedAsks rules_ask g at m

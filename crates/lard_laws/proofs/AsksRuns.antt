@@ -1,6 +1,6 @@
 -- The laws of Asks in every run.
 use Rattle.std.proofs.Common.{◌≡◌, ℕ, nat_lt, List, [], Ok, refl, sym, subst, inl, inr, ⊎_elim}
-use Rattle.lard_law_view.specs.Prelude.{Config, Conn, Event, HasRule, IsConnNumber, IsReached, Machine, Move, Rules, Seen, Setting, Tally, conn, grown, machine_start, machine_step, net_of, open_shares, own, seen_on, setting, with_leaving}
+use Rattle.lard_law_view.specs.Prelude.{Config, Conn, Event, HasRule, IsConnNumber, IsReached, Machine, Move, Rules, Seen, Setting, Tally, config_check, conn, grown, machine_start, machine_step, net_of, open_shares, own, seen_on, setting, with_leaving}
 use Rattle.lard_laws.specs.AsksAnswers.{IsAnswered, MustAnswer, MustEnd, ends_due}
 use Rattle.lard_laws.specs.Asks.{end_in, later_in}
 use Rattle.lard_laws.specs.AsksRuns.{AsksAreAnswered, BatchesEndInSteps}
@@ -24,7 +24,7 @@ use Rattle.lard_history.proofs.Stepping.{AreLawful, one-more}
 nothing-answered : (c : ℕ) (past : List Seen) → IsAnswered c past []
 nothing-answered c past = record { assigns = refl; tags = refl; ends = refl }
 
-module _ (config : Config) (files : List (List ℕ × List ℕ)) where
+module _ (config : Config) (files : List (List ℕ × List ℕ)) (checked : config_check config ≡ Ok tt) where
   abbrev All : Conn → Move → Type 0
   All x v = IsFine x v × Goes (setting config files) x v
 
@@ -50,7 +50,7 @@ module _ (config : Config) (files : List (List ℕ × List ℕ)) where
     goes = filling (conn m q) (conn n q) (step-fills m n e after is on.view.told q) (goes-on config files All (λ l. all (with_leaving (setting config files) l)) m n e on rule is q)
 
     does : (v : Move) → (IsConnNumber (conn m q).c × All (conn m q) v) × Fills (conn m q) (grown (conn m q) v) → Answers (conn m q) v
-    does v h = h.0.1.1 (each-way config files m on.reached q).front (known q) (h.0.1.0 h.0.0 (on.view.sound q)).0 h.1
+    does v h = h.0.1.1 (each-way config files checked m on.reached q).front (known q) (h.0.1.0 h.0.0 (on.view.sound q)).0 h.1
 
     pub stays-told : Told (conn n q)
     stays-told = gone Told (λ x v. (IsConnNumber x.c × All x v) × Fills x (grown x v)) (conn m q) (conn n q) (known q) (λ v h. (does v h).1) goes
@@ -66,11 +66,11 @@ module _ (config : Config) (files : List (List ℕ × List ℕ)) where
   each-told m r = carried-keep config files IsKnownOf start-told (λ k n e on known rule is q. stays-told k n e on known rule is q) m r
 
 pub asks-answered : AsksAreAnswered
-asks-answered config files m r = (carried-keep config files (λ k. AreLawful MustAnswer k.journal) (refl, tt)
+asks-answered config files m checked r = (carried-keep config files (λ k. AreLawful MustAnswer k.journal) (refl, tt)
     (λ k n e on lawful rule is.
     let after : IsAfter k e n = step-after k on.view e n rule is in
     subst (AreLawful MustAnswer) (sym after.is)
-    (one-more MustAnswer k.journal after.step after.one lawful (λ q. step-answers config files k n e on (each-told config files k on.reached) rule is q after)))
+    (one-more MustAnswer k.journal after.step after.one lawful (λ q. step-answers config files checked k n e on (each-told config files checked k on.reached) rule is q after)))
     m r).1
 
 -- ---- the batch before
@@ -83,6 +83,6 @@ batches-end config files m checked r = (carried-keep config files (λ k. AreLawf
     subst (AreLawful (MustEnd config)) (sym after.is)
     (one-more (MustEnd config) k.journal after.step after.one lawful
     (λ q. subst (λ (loads : Tally). picked (of_row end_in) (seen_on q (net_of k.journal) after.step) ≡ ends_due q (nat_lt 0 (open_shares loads q)) (picked (of_row later_in) (seen_on q (net_of k.journal) after.step))) books
-    (step-ends k n e after is on.view.told q (each-told config files k on.reached q) (each-way config files k on.reached q).front
-    (step-answers config files k n e on (each-told config files k on.reached) rule is q after)))))
+    (step-ends k n e after is on.view.told q (each-told config files checked k on.reached q) (each-way config files checked k on.reached q).front
+    (step-answers config files checked k n e on (each-told config files checked k on.reached) rule is q after)))))
     m r).1

@@ -3,9 +3,9 @@ use Rattle.std.proofs.Common.{◌≡◌, ◌<◌, ◌^◌, ℕ, ◌+◌, ◌==�
 use Rattle.std.proofs.lemmas.Bool.{both_ways, cond_both}
 use Rattle.std.proofs.lemmas.List.{map-append}
 use Rattle.std.specs.List.{AllByRecursion, fold}
-use Rattle.lard_law_view.specs.Prelude.{Asked, BackConn, BackRow, Body, Client, Ending, Front, Kept, Kind, Node, NodeEnv, NodePart, Place, Stay, Turn, Want, Work, all_sent, anew, ask_kept, asked_kept, asked_sent, ended_kept, ended_sent, epoch_at, epoch_in, fetch_of, is_under, kept_after, kind_of, listed, reset_count, sent_of, taken_sent, turn_by, wants_kept, wants_sent, without}
+use Rattle.lard_law_view.specs.Prelude.{Asked, BackConn, BackRow, Body, Client, Ending, Front, Kept, Kind, Node, NodeEnv, NodePart, Place, Stay, Turn, Want, Work, all_sent, anew, ask_kept, asked_kept, asked_sent, ended_kept, ended_sent, epoch_at, epoch_in, fetch_of, give_kept, is_under, kept_after, kept_back, kind_of, listed, parts_of, refused_sent, reset_count, sent_of, taken_sent, turn_back, turn_by, wants_kept, wants_sent, without}
 use Rattle.lard_base.specs.declared.place.TimerKind.TheVariants as timer
-use Rattle.lard_laws.specs.AsksSent.{AsksGoOn, IsNextAsk, IsAskNumbered, ask_by, is_ask}
+use Rattle.lard_laws.specs.AsksSent.{AsksGoOn, IsAskNumbered, IsNextAsk, ask_by, is_ask}
 use Rattle.lard_laws.proofs.AsksWorking.{AskedSo, IsAsking}
 use Rattle.lard_law_connections.proofs.MotionPicking.{pick, pick-append}
 use Rattle.lard_law_connections.specs.Places.{message_head}
@@ -182,13 +182,34 @@ module _ (c n : ℕ) (last : ℕ → Option (List ℕ)) where
     pub taken-unsent : (e : ℕ) → asks_in n e (taken_sent env) ≡ []
     taken-unsent e = ap (λ o. listed o ++ []) (none-sent n e Front (message env.serve.c env.epoch body.Taken) (other-kind e env.serve.c env.epoch body.Taken (λ i. cc)))
 
+    pub refused-unsent : (e : ℕ) → asks_in n e (refused_sent env) ≡ []
+    refused-unsent e = ap (λ o. listed o ++ []) (none-sent n e Front (message env.serve.c env.epoch body.Refused) (other-kind e env.serve.c env.epoch body.Refused (λ i. cc)))
+
+    give-none : (w : Work) → IsNoAsk (give_kept env w)
+    give-none w e = other-kind e env.serve.c env.epoch (body.Give (parts_of w.service.block w.service.count)) (λ i. cc)
+
+    give-unsent : (e : ℕ) (w : Work) → asks_in n e (sent_of (give_kept env w) ∷ []) ≡ []
+    give-unsent e w = ap (λ o. listed o ++ []) (none-sent n e Front (give_kept env w).bytes (give-none w e))
+
     -- of all that a turn sends, the Ask that it makes and what goes out before
+    all-asks : (e : ℕ) (before : List (Place × List ℕ)) (w : Work) → asks_in n e (all_sent env before w) ≡ asks_in n e before ++ asks_in n e (asked_sent env w.asked)
+    all-asks e before w =
+        in-append n e (before ++ asked_sent env w.asked) (wants_sent env w.wants)
+        ∙ (λ i. in-append n e before (asked_sent env w.asked) i ++ wants-unsent e w.wants i)
+        ∙ append-nil (asks_in n e before ++ asks_in n e (asked_sent env w.asked))
+
     pub turn-asks : (e : ℕ) (before : List (Place × List ℕ)) (w : Work) (given : Ending) → asks_in n e (all_sent env before w ++ ended_sent env w.service.over given) ≡ asks_in n e before ++ asks_in n e (asked_sent env w.asked)
     turn-asks e before w given =
-        let asked : List (List ℕ) = asks_in n e before ++ asks_in n e (asked_sent env w.asked) in
         in-append n e (all_sent env before w) (ended_sent env w.service.over given)
-        ∙ (λ i. (in-append n e (before ++ asked_sent env w.asked) (wants_sent env w.wants) ∙ (λ j. in-append n e before (asked_sent env w.asked) j ++ wants-unsent e w.wants j) ∙ append-nil asked) i ++ ended-unsent e w.service.over given i)
-        ∙ append-nil asked
+        ∙ (λ i. all-asks e before w i ++ ended-unsent e w.service.over given i)
+        ∙ append-nil (asks_in n e before ++ asks_in n e (asked_sent env w.asked))
+
+    -- and where the connection goes back
+    back-asks : (e : ℕ) (before : List (Place × List ℕ)) (w : Work) → asks_in n e (turn_back env before w).messages ≡ asks_in n e before ++ asks_in n e (asked_sent env w.asked)
+    back-asks e before w =
+        in-append n e (all_sent env before w) (sent_of (give_kept env w) ∷ [])
+        ∙ (λ i. all-asks e before w i ++ give-unsent e w i)
+        ∙ append-nil (asks_in n e before ++ asks_in n e (asked_sent env w.asked))
 
     -- a turn that makes no Ask
     pub unasked-part : (part : NodePart) (w : Work) (given : Ending) (was : ℕ) → w.asked ≡ None → w.asks ≡ was → Each (IsLast last) part.kept → Each IsNoAsk part.fetches → ((e : ℕ) → env.epoch < e → last e ≡ None) → IsAskNumbered c env.epoch (last env.epoch) was
@@ -220,22 +241,18 @@ module _ (c n : ℕ) (last : ℕ → Option (List ℕ)) where
       go true = refl
       go false = refl
 
-    -- what a turn comes to
-    pub turn-outcome : env.epoch < 2 ^ 16 → (part : NodePart) (before : List (Place × List ℕ)) (w : Work) (given : Ending × Turn) (was : ℕ) → IsAsking env was w → ((e : ℕ) → asks_in n e before ≡ []) → Each (IsLast last) part.kept → Each IsNoAsk part.fetches
-        → ((e : ℕ) → env.epoch < e → last e ≡ None) → IsAskNumbered c env.epoch (last env.epoch) was → Outcome (env.queue + length w.jobs) (turn_by env before w given).messages (kept_after env part w given.0)
-    turn-outcome small part before w given was h none kept fetches fresh counted = go w.asked refl h where
-      ms : List (Place × List ℕ)
-      ms = (turn_by env before w given).messages
-
-      all-are : (e : ℕ) → asks_in n e ms ≡ asks_in n e (asked_sent env w.asked)
-      all-are e = turn-asks e before w given.0 ∙ ap (λ l. l ++ asks_in n e (asked_sent env w.asked)) (none e)
-
-      go : (o : Option Asked) → w.asked ≡ o → AskedSo env was w o → Outcome (env.queue + length w.jobs) ms (kept_after env part w given.0)
-      go None is so = none-outcome (env.queue + length w.jobs) ms (kept_after env part w given.0) (λ e. all-are e ∙ ap (λ o. asks_in n e (asked_sent env o)) is) (unasked-part part w given.0 was is so kept fetches fresh counted)
+    -- What messages come to that have the Ask of a turn alone: what is kept then is as it must be, by whether there is one.
+    sends-outcome : env.epoch < 2 ^ 16 → (w : Work) (ms : List (Place × List ℕ)) (q : NodePart) (was : ℕ) → IsAsking env was w → ((e : ℕ) → asks_in n e ms ≡ asks_in n e (asked_sent env w.asked))
+        → ((e : ℕ) → env.epoch < e → last e ≡ None) → IsAskNumbered c env.epoch (last env.epoch) was → (w.asked ≡ None → w.asks ≡ was → PartAsks c last q)
+        → ((then : ℕ → Option (List ℕ)) (a : Asked) → w.asked ≡ Some a → a.number ≡ was + 1 → w.asks ≡ was + 1 → ((e : ℕ) → env.epoch < e → then e ≡ None) → then env.epoch ≡ Some (asked_bytes a) → PartAsks c then q)
+        → Outcome (env.queue + length w.jobs) ms q
+    sends-outcome small w ms q was h all-are fresh counted unasked asked = go w.asked refl h where
+      go : (o : Option Asked) → w.asked ≡ o → AskedSo env was w o → Outcome (env.queue + length w.jobs) ms q
+      go None is so = none-outcome (env.queue + length w.jobs) ms q (λ e. all-are e ∙ ap (λ o. asks_in n e (asked_sent env o)) is) (unasked is so)
       go (Some a) is so =
           let ours : (e : ℕ) (b : Bool) → (env.epoch == e) ≡ b → asks_in n e ms ≡ cond b (asked_bytes a ∷ []) [] = λ e b f. all-are e ∙ ap (λ o. asks_in n e (asked_sent env o)) is ∙ asked-in small a e b f in (
             λ e. goes e (env.epoch == e) refl (ours e (env.epoch == e) refl) so.0 so.2,
-            asked-part small part w given.0 (then_last ms) a was is so.0 so.1 kept fetches (λ e later. behind e (env.epoch == e) refl (ours e (env.epoch == e) refl) later) (ap (keeping env.epoch) (ours env.epoch true (eqb-same env.epoch))),
+            asked (then_last ms) a is so.0 so.1 (λ e later. behind e (env.epoch == e) refl (ours e (env.epoch == e) refl) later) (ap (keeping env.epoch) (ours env.epoch true (eqb-same env.epoch))),
           ) where
             keeping : ℕ → List (List ℕ) → Option (List ℕ)
             keeping e all = fold (λ (o : Option (List ℕ)) (bytes : List ℕ). Some bytes) (last e) all
@@ -252,3 +269,20 @@ module _ (c n : ℕ) (last : ℕ → Option (List ℕ)) where
             goes e true f are one queue = subst (AsksGoOn (IsNextAsk c e (env.queue + length w.jobs)) (last e)) (sym are)
                 (subst (λ (d : ℕ). AsksGoOn (IsNextAsk c d (env.queue + length w.jobs)) (last d) (asked_bytes a ∷ [])) (eqb-true env.epoch e f)
                 (inr ((was, a.size, a.paths, counted, λ i. message (number i) env.epoch (body.Ask (one i) (queue i) a.size a.paths)), refl)))
+
+    -- what a turn comes to
+    pub turn-outcome : env.epoch < 2 ^ 16 → (part : NodePart) (before : List (Place × List ℕ)) (w : Work) (given : Ending × Turn) (was : ℕ) → IsAsking env was w → ((e : ℕ) → asks_in n e before ≡ []) → Each (IsLast last) part.kept → Each IsNoAsk part.fetches
+        → ((e : ℕ) → env.epoch < e → last e ≡ None) → IsAskNumbered c env.epoch (last env.epoch) was → Outcome (env.queue + length w.jobs) (turn_by env before w given).messages (kept_after env part w given.0)
+    turn-outcome small part before w given was h none kept fetches fresh counted =
+        sends-outcome small w (turn_by env before w given).messages (kept_after env part w given.0) was h (λ e. turn-asks e before w given.0 ∙ ap (λ l. l ++ asks_in n e (asked_sent env w.asked)) (none e)) fresh counted
+        (λ is so. unasked-part part w given.0 was is so kept fetches fresh counted) (λ then a is one so later at. asked-part small part w given.0 then a was is one so kept fetches later at)
+
+    -- one that goes back awaits no Ask
+    back-part : (part : NodePart) (w : Work) (then : ℕ → Option (List ℕ)) → ((e : ℕ) → env.epoch < e → then e ≡ None) → PartAsks c then (kept_back env part w)
+    back-part part w then fresh = record { fresh = fresh; kept = (no-last then (give_kept env w) (give-none w), tt); fetches = tt; stay = tt }
+
+    pub back-outcome : env.epoch < 2 ^ 16 → (part : NodePart) (before : List (Place × List ℕ)) (w : Work) (was : ℕ) → IsAsking env was w → ((e : ℕ) → asks_in n e before ≡ [])
+        → ((e : ℕ) → env.epoch < e → last e ≡ None) → IsAskNumbered c env.epoch (last env.epoch) was → Outcome (env.queue + length w.jobs) (turn_back env before w).messages (kept_back env part w)
+    back-outcome small part before w was h none fresh counted =
+        sends-outcome small w (turn_back env before w).messages (kept_back env part w) was h (λ e. back-asks e before w ∙ ap (λ l. l ++ asks_in n e (asked_sent env w.asked)) (none e)) fresh counted
+        (λ is so. back-part part w last fresh) (λ then a is one so later at. back-part part w then later)

@@ -3,7 +3,7 @@ use Rattle.std.proofs.Common.{◌≡◌, ◌≢◌, ◌⊎◌, ◌<◌, ◌≤�
 use Rattle.std.proofs.lemmas.Bool.{and_parts, both_ways, ltb-true}
 use Rattle.std.proofs.lemmas.List.Sums.{fold-append}
 use Rattle.std.specs.List.{fold}
-use Rattle.lard_law_view.specs.Prelude.{BackRow, Came, Client, ClientBlock, ClientRules, Conn, ControlBlock, EndpointParts, Front, IsOnceAway, IsNodeEnv, Move, Node, NodeEnv, NodeGets, NodePart, Offered, Place, Rec, Row, Rules, Seen, Setting, SpellsMessage, Station, Stay, Turn, Was, client_begins, client_does, client_injects, client_opens, client_rule, epoch_in, front_does, front_rule, grown, inject_seen, is_gone, listed, node_does, node_put_back, node_rule, nothing_said, offer_answer, packet_seen, rows_of, seen_in, stands}
+use Rattle.lard_law_view.specs.Prelude.{BackRow, Came, Client, ClientBlock, ClientRules, Conn, ControlBlock, EndpointParts, Front, IsNodeEnv, Move, Node, NodeEnv, NodeGets, NodePart, Offered, Place, Rec, Row, Rules, Seen, Setting, SpellsMessage, Station, Stay, Turn, Was, client_begins, client_does, client_injects, client_opens, client_rule, epoch_in, front_does, front_rule, grown, inject_seen, is_gone, listed, node_does, node_put_back, node_rule, nothing_said, offer_answer, packet_seen, rows_of, seen_in, stands}
 use Rattle.lard_law_view.proofs.EachFront.{each-front, of-front}
 use Rattle.lard_law_view.proofs.EachClient.{client_seen, each-client, of-client}
 use Rattle.lard_laws.specs.AsksSent.{AsksGoOn, IsNextAsk, ask_by, is_ask, last_ask, newest}
@@ -12,7 +12,7 @@ use Rattle.lard_laws.proofs.AsksSending.{Outcome, PartAsks, asks_in}
 use Rattle.lard_law_connections.specs.MotionStory.{of_row, picked}
 use Rattle.lard_law_connections.proofs.MotionNodes.{IsFirst}
 use Rattle.lard_law_connections.proofs.MotionPicking.{pick, pick-seen, picked-append, picked-none, segments-none, pick-sent}
-use Rattle.lard_law_connections.specs.Places.{IsDecided, IsEven, IsOffered, message_head}
+use Rattle.lard_law_connections.specs.Places.{IsDecided, IsEarlyEpoch, IsEven, IsOffered, message_head}
 use Rattle.lard_law_connections.proofs.PlacesFrontMessages.{offer-says}
 use Rattle.lard_law_connections.proofs.PlacesNodeRules.{here-has}
 use Rattle.lard_law_connections.proofs.PlacesTurns.{IsPlaced}
@@ -210,7 +210,7 @@ module _ (k : Setting) (x : Conn) (n epoch : ℕ) (env : NodeEnv) (is : IsNodeEn
     pub small-here : (b : ControlBlock) (s : Stay) → IsHereWith env.epoch ours b s → env.epoch < 2 ^ 16
     small-here b s at = let early = (here-has x placed n env.epoch b s (here-of env.epoch ours b s at)).can.early in omega (arith, early)
 
-    undecided-away : IsDecided env.epoch ours.row ⊎ IsOffered n env.epoch x.part.front.row → (IsDecided env.epoch ours.row → ⊥) → IsEven env.epoch × IsOnceAway env.epoch
+    undecided-away : IsDecided env.epoch ours.row ⊎ IsOffered n env.epoch x.part.front.row → (IsDecided env.epoch ours.row → ⊥) → IsEven env.epoch × IsEarlyEpoch env.epoch
     undecided-away said other = offered-away x placed n env.epoch (⊎_elim (λ (d : IsDecided env.epoch ours.row). absurd (other d)) (λ (o : IsOffered n env.epoch x.part.front.row). o) said)
 
     -- one that is new
@@ -242,7 +242,7 @@ module _ (k : Setting) (x : Conn) (n epoch : ℕ) (env : NodeEnv) (is : IsNodeEn
 
   pub rule-goes : (heads : List Seen) (g : NodeGets) → IsInItsEpoch env ours g → NodeComes x n epoch heads g → Goes k x (node_goes x n env heads g)
   rule-goes heads g at comes = node-goes heads (heads-of IsFirst (λ l. tt) (λ i c. tt) x n epoch heads g comes) (job_notes x.c n g) (node_rule env ours g)
-      (λ placed h. rule-asks x.c n (lasts x n) env is.number ours (h n) (small-here placed) g at (may-ask heads g comes placed h))
+      (λ placed h. rule-asks x.c n (lasts x n) env is.number ours (h n) (small-here placed) g at.0 (may-ask heads g comes placed h))
 
 -- what it does for another one
 stands-goes : (k : Setting) (x : Conn) (n from : ℕ) (heads : List Seen) → Each IsFirst heads → (notes : List Rec) (bytes : List (List ℕ)) → Goes k x (stands x (Node n) heads (record { notes = notes; segments = []; gave = []; messages = map (λ b. (Node from, b)) bytes }))

@@ -30,7 +30,7 @@ use Rattle.lard_journal.specs.declared.rec.Rec.TheVariants as rec
 use Rattle.lard_message.specs.declared.message.Body.TheVariants as body
 use Rattle.lard_rules.specs.declared.node.BackIn.TheVariants as back
 use Rattle.lard_rules.specs.Node.{Drops, Says, Does}
-use Rattle.lard_rules.proofs.NodeCases.{IsHereWith, IsInItsEpoch}
+use Rattle.lard_rules.proofs.NodeCases.{IsHereWith, IsOfItsEpoch}
 
 -- A node's step from this journal: the Asks of one connection go on, and nothing else is an Ask.
 pub record Told (J : List Rec) (i : ℕ) (x : NodeState × Out) : Type 0 where
@@ -75,7 +75,7 @@ module _ (m : Machine) (view : IsViewed m) (placed : (c : ℕ) → IsPlaced (con
     p = node_part s c
 
     abbrev is-env : IsNodeEnv (setting_of m) c i epoch env
-    is-env = record { place = refl; number = refl; files = refl; stream = refl; node = refl; epoch_is = refl; leaves = ap leaves_at (sym there) }
+    is-env = record { place = refl; number = refl; files = refl; stream = refl; node = refl; epoch_is = refl; leaves = ap leaves_at (sym there); remains = view.remain i s there }
 
     timers-unsent : (q : NodePart) → Each IsUnsent (node_timers i c p q)
     unfolding timer_rows
@@ -108,7 +108,7 @@ module _ (m : Machine) (view : IsViewed m) (placed : (c : ℕ) → IsPlaced (con
     unfolding conn
     small = subst (λ (q : NodePart). (b : ControlBlock) (y : Stay) → IsHereWith env.epoch q b y → env.epoch < 2 ^ 16) (node-kept m i s c there) (small-here (setting_of m) x i epoch env is-env (placed c))
 
-    rule-told : (g : NodeGets) → IsInItsEpoch env p g → MayAsk c i (lasts x i) env refl p part-known g → IsNodeDeed i c p (node_rule env p g)
+    rule-told : (g : NodeGets) → IsOfItsEpoch env p g → MayAsk c i (lasts x i) env refl p part-known g → IsNodeDeed i c p (node_rule env p g)
         → Tells (node_deed (node_setting m i) u c (node_rule env p g))
     rule-told g at may good = deed-told (node_rule env p g) (rule-asks c i (lasts x i) env refl p part-known small g at may) good
 
@@ -124,8 +124,8 @@ module _ (m : Machine) (view : IsViewed m) (placed : (c : ℕ) → IsPlaced (con
     read : (r : ℕ) → Tells (node_deed (node_setting m i) u c (node_read env p r))
     read r = rule-told (Completed r []) tt tt (nodes.read-deed env refl number p r)
 
-    acknowledged : Tells (node_deed (node_setting m i) u c (node_acknowledged env p))
-    acknowledged = rule-told Acknowledged tt tt (nodes.acknowledged-deed env refl number p)
+    acknowledged : (back : Bool) → Tells (node_deed (node_setting m i) u c (node_acknowledged env back p))
+    acknowledged back = rule-told (Acknowledged back) tt tt (nodes.acknowledged-deed env refl number p back)
 
     -- an Offer that was sent to it
     offered : (parts : EndpointParts) (bytes : List ℕ) → SpellsMessage c epoch (body.Offer parts) bytes → Was x Front (Node i) bytes → Tells (node_deed (node_setting m i) u c (node_offered env p parts))
@@ -170,7 +170,8 @@ module _ (m : Machine) (view : IsViewed m) (placed : (c : ℕ) → IsPlaced (con
           (was m k msg.c l at Front (Node i) is-from is-to (decoded-names msg l.bytes reads).named)
       front-hears is-from (body.Forward bytes) says = forwarded msg.c msg.epoch.0 number s.cache s.disk bytes
       front-hears is-from (body.Tag tag ns) says = tagged msg.c msg.epoch.0 number s.cache s.disk tag ns
-      front-hears is-from body.EndedAck says = acknowledged msg.c msg.epoch.0 number s.cache s.disk
+      front-hears is-from body.EndedAck says = acknowledged msg.c msg.epoch.0 number s.cache s.disk false
+      front-hears is-from body.Given says = acknowledged msg.c msg.epoch.0 number s.cache s.disk true
       front-hears is-from _ says = nothing-told s
 
       node-hears : (from : ℕ) (b : Body) → Tells (node_hears (node_setting m i) s (Node from) msg.c msg.epoch.0 b)

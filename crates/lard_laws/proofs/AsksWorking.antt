@@ -92,4 +92,5 @@ module _ (env : NodeEnv) (was : ℕ) where
     reads = λ k none may a. batch-asks false k none (read-idle k k.asked refl none a);
     serves = λ way e rest k may first is a. serves-so way e rest k first is a;
     stops = λ k may a. a;
+    holds = λ k leaves none may a. a;
   }) w h

@@ -4,7 +4,8 @@ use Rattle.std.specs.FinMap.{get-empty}
 use Rattle.std.specs.Ordering.{nat_cmp}
 use Rattle.std.specs.Prelude.{slice_set}
 use Rattle.std.proofs.lemmas.List.Sums.{fold-append}
-use Rattle.lard_law_view.specs.Prelude.{BackIn, BackRow, Body, Came, Config, Conn, ControlBlock, EachMay, EndpointParts, Event, FilesAt, Front, Has, IsConnNumber, IsNodeEnv, IsReached, Letter, Machine, Message, MsgFault, Node, NodeEnv, NodePart, NodeSetting, NodeState, Out, Packet, Place, Rec, Seen, Setting, SpellsMessage, Station, Stay, Tale, Was, assignments, assignments_step, back_held, batch_of, both_of, came_seen, conn, conn_of, decoded_message, file_at, here, is_tag_awaited, is_touched, leaves_at, letter_of, machine_start, machine_told, named_in, net_of, no_stays, node_at, node_env, node_gave, node_part, node_setting, node_step, offer_answer, own, packet_at, seen_on, setting_of, staying, tale_at, touched_step, wrote, wrote_step}
+use Rattle.lard_base.proofs.Usable.{usable}
+use Rattle.lard_law_view.specs.Prelude.{BackIn, BackRow, Body, Came, Config, Conn, ControlBlock, EachMay, EndpointParts, Event, FilesAt, Front, Has, IsConnNumber, IsNodeEnv, IsReached, Letter, Machine, Message, MsgFault, Node, NodeEnv, NodePart, NodeSetting, NodeState, Out, Packet, Place, Rec, Seen, Setting, SpellsMessage, Station, Stay, Tale, Was, assignments, assignments_step, back_held, batch_of, both_of, came_seen, config_check, conn, conn_of, decoded_message, file_at, here, is_tag_awaited, is_touched, leaves_at, letter_of, machine_start, machine_told, named_in, net_of, no_stays, node_at, node_env, node_gave, node_part, node_setting, node_step, offer_answer, own, packet_at, seen_on, setting_of, staying, tale_at, touched_step, wrote, wrote_step}
 use Rattle.lard_base.specs.declared.event.Event.TheVariants as event
 use Rattle.lard_laws.specs.Asks.{ask_tale}
 use Rattle.lard_laws.proofs.AsksRuns.{each-told}
@@ -68,7 +69,10 @@ MeantBy files n c epoch J ask r path = IsFor files (wrote J c) r path × HasAssi
 abbrev MeantFor : FilesAt → ℕ → List Rec → ℕ → ℕ → List ℕ → Type 0
 MeantFor files c J number r path = IsFor files (wrote J c) r path × HasAssignment files (wrote J c) J c r (Some number)
 
-module _ (m : Machine) (small : m.config.stream ≤ 2 ^ 30) (reached : IsReached m.config m.files m) where
+module _ (m : Machine) (checked : config_check m.config ≡ Ok tt) (reached : IsReached m.config m.files m) where
+  small : m.config.stream ≤ 2 ^ 30
+  small = (usable m.config checked).stream
+
   abbrev files : FilesAt
   files = file_at m.files
 
@@ -105,16 +109,16 @@ module _ (m : Machine) (small : m.config.stream ≤ 2 ^ 30) (reached : IsReached
       env = node_env its s c epoch
 
       is-env : IsNodeEnv k c i epoch env
-      is-env = record { place = refl; number = refl; files = refl; stream = refl; node = refl; epoch_is = refl; leaves = ap leaves_at (sym at) }
+      is-env = record { place = refl; number = refl; files = refl; stream = refl; node = refl; epoch_is = refl; leaves = ap leaves_at (sym at); remains = (reached-viewed m.config m.files m reached).remain i s at }
 
       placed : IsPlaced x
-      placed = each-placed m.config m.files m reached c
+      placed = each-placed m.config m.files checked m reached c
 
       truthful : is_touched m.journal c ≡ false → IsTruthful files x
-      truthful u = states-truthful m.config m.files small m reached c (calm c u)
+      truthful u = states-truthful m.config m.files checked m reached c (calm c u)
 
       ways : is_touched m.journal c ≡ false → GoesItsWay files x
-      ways u = (each-guarded m.config m.files small m reached c).0 (calm c u)
+      ways u = (each-guarded m.config m.files checked m reached c).0 (calm c u)
 
       opened : is_touched m.journal c ≡ false → (t : Station) × (x.part.station ≡ Some t)
       opened u = opened-at files x (truthful u) (front-opens x i bytes sent)
@@ -144,7 +148,7 @@ module _ (m : Machine) (small : m.config.stream ≤ 2 ^ 30) (reached : IsReached
           let h = truthful u in
           let o = opened u in
           let there : here env.epoch (x.part.nodes i) ≡ Some y = subst (λ (p : NodePart). here epoch p ≡ Some y) (sym (part-is c)) held in
-          let counted = tag-counts k small x o.0 o.1 h.talk h.pend (open-at files x o.0 o.1 h) i epoch env is-env placed (ways u) (each-told m.config m.files m reached c) number_of nodes bytes spells sent y there
+          let counted = tag-counts k small x o.0 o.1 h.talk h.pend (open-at files x o.0 o.1 h) i epoch env is-env placed (ways u) (each-told m.config m.files checked m reached c) number_of nodes bytes spells sent y there
           (subst (λ (p : NodePart). is_tag_awaited env number_of nodes p y.1 ≡ true) (sym (part-is c)) awaited) in
           named-both files (IsFor files (wrote m.journal c)) (λ r path. HasAssignment files (wrote m.journal c) m.journal c r (Some number_of)) (y.1.served + 1) y.1.batch
           (subst (λ (w : WayMarks). EachNamed files (IsFor files w.wrote) (y.1.served + 1) y.1.batch) (marked-own c)
@@ -154,7 +158,7 @@ module _ (m : Machine) (small : m.config.stream ≤ 2 ^ 30) (reached : IsReached
     -- a Fetch is of another node
     other-asks : (c : ℕ) → IsConnNumber c → (n : ℕ) (bytes : List ℕ) → Was (conn m c) (Node n) (Node i) bytes → (epoch r : ℕ) (path : List ℕ) → SpellsMessage c epoch (body.Fetch r path) bytes → is_touched m.journal c ≡ false → n ≡ i → ⊥
     other-asks c number n bytes sent epoch r path spells u same =
-        let old : FetchesFor files (conn m c) = (each-backed m.config m.files small m reached c).0 (calm c u) in
+        let old : FetchesFor files (conn m c) = (each-backed m.config m.files checked m reached c).0 (calm c u) in
         let says = (has-fair (LetterFor files (marks_at (conn m c)).wrote) (record { from = Node n; to = Node i; bytes = bytes }) (conn m c).letters sent old) _ spells in
         says.2 same
 
@@ -324,7 +328,7 @@ module _ (m : Machine) (e : Event) (hit : AreHit (file_at m.files) m) (i : ℕ) 
 nothing-hit : (files : FilesAt) (n limit q : ℕ) → StayHits files n q [] (node_part (no_stays limit) q).row (node_part (no_stays limit) q).stay
 nothing-hit files n limit q = subst (StayHits files n q [] (node_part (no_stays limit) q).row) (sym (get-empty nat_cmp q)) tt
 
-module _ (config : Config) (files : List (List ℕ × List ℕ)) (small : config.stream ≤ 2 ^ 30) where
+module _ (config : Config) (files : List (List ℕ × List ℕ)) (checked : config_check config ≡ Ok tt) where
   abbrev Hit : Machine → Type 0
   Hit m = AreHit (file_at files) m
 
@@ -338,8 +342,8 @@ module _ (config : Config) (files : List (List ℕ × List ℕ)) (small : config
   }
 
   -- a state has the settings that it began with
-  own-small : (k : Machine) → IsOn config files k → k.config.stream ≤ 2 ^ 30
-  own-small k on = subst (λ (g : Config). g.stream ≤ 2 ^ 30) (sym on.config_is) small
+  own-checked : (k : Machine) → IsOn config files k → config_check k.config ≡ Ok tt
+  own-checked k on = subst (λ (g : Config). config_check g ≡ Ok tt) (sym on.config_is) checked
 
   own-reached : (k : Machine) → IsOn config files k → IsReached k.config k.files k
   own-reached k on = subst (λ (fs : List (List ℕ × List ℕ)). IsReached k.config fs k) (sym on.files_are) (subst (λ (g : Config). IsReached g files k) (sym on.config_is) on.reached)
@@ -351,7 +355,7 @@ module _ (config : Config) (files : List (List ℕ × List ℕ)) (small : config
   pub node-hits : (k : Machine) → IsOn config files k → Hit k → (e : Event) (n : Machine) (step : NodeStep k e n)
       → StepHits (node_setting k step.i) step.comes (k.journal ++ first_rows k e) (node_step (node_setting k step.i) step.s step.comes)
   node-hits k on hit e n step = step-hits (node_setting k step.i) (k.journal ++ first_rows k e) step.s step.comes
-      (node-more (node_setting k step.i) k.journal (first_rows k e) step.s ((now-hit k on hit).kept step.i step.s step.there)) (step-known k (own-small k on) (own-reached k on) step.i step.s step.there ((now-hit k on hit).kept step.i step.s step.there) e step.comes step.came)
+      (node-more (node_setting k step.i) k.journal (first_rows k e) step.s ((now-hit k on hit).kept step.i step.s step.there)) (step-known k (own-checked k on) (own-reached k on) step.i step.s step.there ((now-hit k on hit).kept step.i step.s step.there) e step.comes step.came)
 
   pub reached-hit : (m : Machine) → IsReached config files m → Hit m
   reached-hit m r = carried-keep config files Hit start-hit

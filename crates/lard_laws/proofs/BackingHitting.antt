@@ -4,7 +4,7 @@ use Rattle.std.proofs.Common.{◌≡◌, ◌<◌, ◌+◌, ◌-◌, ◌==◌, �
 use Rattle.std.proofs.lemmas.Bool.{and_from, cond_both, ltb-true}
 use Rattle.std.proofs.lemmas.List.{length_push}
 use Rattle.std.specs.List.{find}
-use Rattle.lard_law_view.specs.Prelude.{Completed, Content, ControlBlock, Done, EachMay, Ending, EndpointParts, Entry, FilesAt, More, Next, Node, NodeDeed, NodeEnv, NodeGets, NodePart, Offered, Place, Progress, Rec, Service, Stay, Step, Tagged, Turn, Verdict, Work, after_timer, again_sent, answer, answer_code, asks_for, batch_of, bytes_used, came_for, come_on, come_progress, entered, enters, enters_first, finishing, gave_by, goes_on, good_path, here, is_tag_awaited, is_touched, is_under, kept_after, named_path, named_paths, net_of, next_of, node_begins, node_rule, offer_answer, on_segment, passed_over, progress_of, queued, read_entry, read_progress, reads_batch, reads_these, seen_on, serves_by, serves_first, serves_with, serving, serving_consumed, serving_ready_of, serving_settled, spoken, started, started_here, started_there, starts_at, starts_named, starts_one, state_of, stay_turn, tagged, taken_sent, timed, turn_by, turned, with_work, without, work_left, work_of, wrote}
+use Rattle.lard_law_view.specs.Prelude.{Completed, Content, ControlBlock, Done, EachMay, Ending, EndpointParts, Entry, FilesAt, More, Next, Node, NodeDeed, NodeEnv, NodeGets, NodePart, Offered, Place, Progress, Rec, Service, Stay, Step, Tagged, Turn, Verdict, Work, after_timer, again_sent, answer, answer_code, asks_for, batch_of, bytes_used, came_for, come_on, come_progress, entered, enters, enters_first, finishing, gave_by, gives_back, goes_on, good_path, here, is_tag_awaited, is_touched, is_under, kept_after, named_path, named_paths, net_of, next_of, node_begins, node_rule, offer_answer, on_segment, passed_over, progress_of, queued, read_entry, read_progress, reads_batch, reads_these, seen_on, serves_by, serves_first, serves_with, serving, serving_consumed, serving_ready_of, serving_settled, spoken, started, started_here, started_there, starts_at, starts_named, starts_one, state_of, stay_turn, tagged, taken_sent, timed, turn_by, turned, with_work, without, work_left, work_of, wrote}
 use Rattle.lard_base.specs.declared.place.TimerKind.TheVariants as timer
 use Rattle.lard_base.specs.declared.place.Via.TheVariants as via
 use Rattle.lard_law_connections.proofs.AwaitsNodes.{HasServed, settled-served, spoken-served}
@@ -23,7 +23,7 @@ use Rattle.lard_journal.specs.declared.rec.Rec.TheVariants as rec
 use Rattle.lard_rules.specs.declared.stay.Next.TheVariants as next
 use Rattle.lard_rules.specs.declared.stay.Progress.TheVariants as progress
 use Rattle.lard_laws.proofs.NodeHere.{here-of}
-use Rattle.lard_rules.proofs.NodeCases.{IsHereWith, IsInItsEpoch, KeptByNode, node-keeps, of-here}
+use Rattle.lard_rules.proofs.NodeCases.{IsHereWith, IsOfItsEpoch, KeptByNode, Turned, node-keeps, of-here}
 use Rattle.lard_rules.specs.Node.{Does, Drops, Says}
 use Rattle.lard_rules.specs.declared.places.Ending.TheVariants as ending
 use Rattle.lard_rules.proofs.Runs.{runs_keep}
@@ -162,7 +162,7 @@ module _ (env : NodeEnv) (at_node : env.serve.place ≡ Node env.n) (base : List
 
     turned-go : (k : Work) (x : Next) → Goes k → StepGoes (turned env k x)
     turned-go k next.Serve h = serves-go k k.batch h h.batch
-    turned-go k next.Read h = these-go (bytes_used 8 k.service.block.recv.unread) k (batch_of 8 k.service.block.recv.unread) h
+    turned-go k next.Read h = cond_both env.leaving (Done k) (reads_batch env false k) StepGoes (λ leaves. h) (λ stays. these-go (bytes_used 8 k.service.block.recv.unread) k (batch_of 8 k.service.block.recv.unread) h)
     turned-go k next.Stop h = h
 
     all-go : (k : Work) → Goes k → Goes (goes_on env k)
@@ -189,15 +189,22 @@ module _ (env : NodeEnv) (at_node : env.serve.place ≡ Node env.n) (base : List
     tolds-may past [] h = tt
     tolds-may past (r ∷ rs) h = (told-may past r h.0, subst (λ (l : List Rec). EachMay (MayHit files_at) l rs) (sym (append_assoc J past (r ∷ []))) (tolds-may (past ++ r ∷ []) rs h.1))
 
+    notes-may : (ns more : List Rec) → ns ≡ start ++ more → Each IsTold more → AreNoted ns
+    notes-may ns more is each = (
+      subst (EachMay (MayHit files_at) base) (sym is) (each_append (MayHit files_at) base start more silent.0 (subst (λ (l : List Rec). EachMay (MayHit files_at) l more) (append-nil J) (tolds-may [] more each))),
+      subst (Each IsOwn) (sym is) (Each-append IsOwn start more silent.1 (Each-weaker IsTold IsOwn told-own more each)),
+    )
+
     ends-hit : (p : NodePart) (before : List (Place × List ℕ)) (k : Work) (given : Ending × Turn) → HasServed k.service.count given.0 → given.1.notes ≡ k.service.notes → Goes k → DeedHits (Does (kept_after env p k given.0, turn_by env before k given))
     ends-hit p before k given served same h =
-        let is : given.1.notes ≡ start ++ h.more = same ∙ h.notes in (
+        let is : given.1.notes ≡ start ++ h.more = same ∙ h.notes in
+        let noted : AreNoted given.1.notes = notes-may given.1.notes h.more is h.each in (
           subst (λ (ns : List Rec). StayHits files_at n c (base ++ ns) (kept_after env p k given.0).row (kept_after env p k given.0).stay) (sym is)
               (subst (λ (l : List Rec). StayHits files_at n c l (kept_after env p k given.0).row (kept_after env p k given.0).stay) (append_assoc base start h.more)
               (stay-more files_at n c J h.more (kept_after env p k given.0).row (kept_after env p k given.0).stay (stay given.0 served))),
-          subst (EachMay (MayHit files_at) base) (sym is) (each_append (MayHit files_at) base start h.more silent.0 (subst (λ (l : List Rec). EachMay (MayHit files_at) l h.more) (append-nil J) (tolds-may [] h.more h.each))),
+          noted.0,
           gave given.0,
-          subst (Each IsOwn) (sym is) (Each-append IsOwn start h.more silent.1 (Each-weaker IsTold IsOwn told-own h.more h.each)),
+          noted.1,
         ) where
           gave : (e : Ending) → Each IsStill (gave_by env e)
           gave (ending.Here b count) = tt
@@ -209,6 +216,13 @@ module _ (env : NodeEnv) (at_node : env.serve.place ≡ Node env.n) (base : List
 
     works-hit : (p : NodePart) (before : List (Place × List ℕ)) (k : Work) → Goes k → DeedHits (with_work env p before (goes_on env k))
     works-hit p before k h = ends-hit p before (goes_on env k) (serving_settled env.serve (goes_on env k).service) (settled-served env.serve (goes_on env k).service) (settled-is env.serve (goes_on env k).service).notes (all-go k h)
+
+    -- nothing is kept of one that goes back
+    backs-hit : (p : NodePart) (before : List (Place × List ℕ)) (k : Work) → Goes k → DeedHits (gives_back env p before k)
+    backs-hit p before k h = let noted : AreNoted k.service.notes = notes-may k.service.notes h.more h.notes h.each in (tt, noted.0, ((tt, tt), tt), noted.1)
+
+    turns-hit : (p : NodePart) (k : Work) → Goes k → Turned DeedHits env p [] (goes_on env k)
+    turns-hit p k h = (λ rests. works-hit p [] k h, λ back. backs-hit p [] (goes_on env k) (all-go k h))
 
   -- ---- requests start
 
@@ -370,8 +384,11 @@ module _ (env : NodeEnv) (at_node : env.serve.place ≡ Node env.n) (base : List
         let all : Work = enters env true (k.service.count + 1) (v ∷ vs) rest in
         asks-start (length (v ∷ vs)) (named_paths files_at all.batch) all (first-starts (k.service.count + 1) (v ∷ vs) rest for (record { batch = h.batch; silent = h.silent; later = h.later; notes = h.notes; told = h.told; next_is = h.next_is }))
 
+    started-goes : (k : Work) (h : HasStarted k) → Goes k.service.notes h.1.silent k
+    started-goes k h = record { batch = h.1.batch; more = []; notes = sym (append-nil k.service.notes); each = tt }
+
     started-hit : (p : NodePart) (before : List (Place × List ℕ)) (k : Work) → HasStarted k → DeedHits (with_work env p before (goes_on env k))
-    started-hit p before k h = works-hit k.service.notes h.1.silent p before k (record { batch = h.1.batch; more = []; notes = sym (append-nil k.service.notes); each = tt })
+    started-hit p before k h = works-hit k.service.notes h.1.silent p before k (started-goes k h)
 
   -- ---- the rules
 
@@ -391,7 +408,7 @@ module _ (env : NodeEnv) (at_node : env.serve.place ≡ Node env.n) (base : List
 
     -- what is known of what comes
     abbrev pub MayCome : NodeGets → Type 0
-    MayCome (Offered parts) = offer_answer env.epoch p.row ≡ New → FirstFor None (parts.served + 1) (batch_of 8 parts.unread)
+    MayCome (Offered parts) = StayHits files_at n c base p.row p.stay × (offer_answer env.epoch p.row ≡ New → FirstFor None (parts.served + 1) (batch_of 8 parts.unread))
     MayCome (Tagged number nodes) = StayHits files_at n c base p.row p.stay × ((y : ControlBlock × Stay) → here env.epoch p ≡ Some y → is_tag_awaited env number nodes p y.1 ≡ true → TagKnown number y)
     MayCome (Content from r) = CameBehind from r
     MayCome (Completed r path) = (old : List Rec) × (base ≡ old ++ rec.Read n n c r path ∷ []) × StayHits files_at n c old p.row p.stay
@@ -432,11 +449,12 @@ module _ (env : NodeEnv) (at_node : env.serve.place ≡ Node env.n) (base : List
     job-keeps old r path (progress.Awaited node) h = one-more files_at n c env.epoch old (rec.Read n n c r path ∷ []) r (progress.Awaited node) h
 
     tags : (number : ℕ) (nodes : List ℕ) (b : ControlBlock) (s : Stay) → AreHeld (W base) (s.served + 1) s.batch → TagKnown number (b, s)
-        → DeedHits (with_work env (record p { kept = without timer.Ask 0 p.kept }) [] (goes_on env (tagged env nodes (work_of b s))))
+        → Turned DeedHits env (record p { kept = without timer.Ask 0 p.kept }) [] (goes_on env (tagged env nodes (work_of b s)))
     tags number nodes b s h k =
         let begins_so : Starts (Some number) (record (work_of b s) { batch = [] }) (s.served + 1) = record { batch = tt; silent = (tt, tt); later = []; notes = refl; told = told-more base [] n c env.epoch (Some number) k.told; next_is = omega arith } in
-        started-hit (Some number) (record p { kept = without timer.Ask 0 p.kept }) [] (tagged env nodes (work_of b s))
-        (at-starts (Some number) nodes 0 (s.served + 1) s.batch (record (work_of b s) { batch = [] }) begins_so h k.for)
+        let w : Work = tagged env nodes (work_of b s) in
+        let started : HasStarted (Some number) w = at-starts (Some number) nodes 0 (s.served + 1) s.batch (record (work_of b s) { batch = [] }) begins_so h k.for in
+        turns-hit w.service.notes started.1.silent (record p { kept = without timer.Ask 0 p.kept }) w (started-goes (Some number) w started)
 
     begins : (parts : EndpointParts) → FirstFor None (parts.served + 1) (batch_of 8 parts.unread)
         → DeedHits (with_work env p (taken_sent env) (goes_on env (state_of (reads_batch env true (node_begins env parts)))))
@@ -447,24 +465,26 @@ module _ (env : NodeEnv) (at_node : env.serve.place ≡ Node env.n) (base : List
     rules_hit : KeptByNode env p MayCome DeedHits
     rules_hit = record {
       drops = tt;
-      hears = λ sd b s m at. works-hit [] (tt, tt) p [] (work_of (on_segment b sd).1 s) (fresh (on_segment b sd).1 s (held-here base b s at m));
+      hears = λ sd b s m at. turns-hit [] (tt, tt) p (work_of (on_segment b sd).1 s) (fresh (on_segment b sd).1 s (held-here base b s at m));
       tags = λ number nodes b s m at asked same count. tags number nodes b s (held-here base b s at m.0)
           (m.1 (b, s) (here-of env.epoch p b s at) (and_from (is_some (find (is_under timer.Ask 0) p.kept)) (s.asks == number && length nodes == length (named_paths files_at s.batch)) asked
           (and_from (s.asks == number) (length nodes == length (named_paths files_at s.batch)) (eq-eqb s.asks number same) (eq-eqb (length nodes) (length (named_paths files_at s.batch)) count))));
       comes = λ from r b s m at wanted.
-          works-hit [] (tt, tt) (record p { fetches = without timer.Fetch r p.fetches }) [] (came_for (come_progress from) r (work_of b s))
+          turns-hit [] (tt, tt) (record p { fetches = without timer.Fetch r p.fetches }) (came_for (come_progress from) r (work_of b s))
           (came-goes m.old m.first m.is (come_progress from) r (content-keeps from r m) b s (held-here m.old b s at m.kept));
       reads = λ r path b s m at.
-          works-hit [] (tt, tt) p [] (came_for read_progress r (work_of b s)) (came-goes m.0 (rec.Read n n c r path ∷ []) m.1 read_progress r (job-keeps m.0 r path) b s (held-here m.0 b s at m.2));
-      begins = λ parts m new. begins parts (m new);
+          turns-hit [] (tt, tt) p (came_for read_progress r (work_of b s)) (came-goes m.0 (rec.Read n n c r path ∷ []) m.1 read_progress r (job-keeps m.0 r path) b s (held-here m.0 b s at m.2));
+      begins = λ parts m new may. begins parts (m.1 new);
       takes_again = λ parts m again. tt;
+      refuses = λ parts m is. (stay-more files_at n c base [] p.row p.stay m.0, tt, tt, tt);
       fires = λ b s m at.
           let v : Service = serving (after_timer b) s.served [] in
           let before = serving_ready_of env.serve (after_timer b) (timed b) in
           ends-hit [] (tt, tt) p (again_sent p) (work_of (after_timer b) s) (spoken env.serve v before) (spoken-served env.serve v before) refl (fresh (after_timer b) s (held-here base b s at m));
       resends = λ m none. tt;
-      ends = λ m told. (gone-hits files_at n c (base ++ []) p.row p.stay (stay-more files_at n c base [] p.row p.stay m), tt, tt, tt);
+      ends = λ back m told was. (gone-hits files_at n c (base ++ []) p.row p.stay (stay-more files_at n c base [] p.row p.stay m), tt, tt, tt);
+      leaves = λ b s m at back. backs-hit [] (tt, tt) p [] (work_of b s) (fresh b s (held-here base b s at m));
     }
 
-    pub rule-hit : (g : NodeGets) → IsInItsEpoch env p g → MayCome g → DeedHits (node_rule env p g)
+    pub rule-hit : (g : NodeGets) → IsOfItsEpoch env p g → MayCome g → DeedHits (node_rule env p g)
     rule-hit g at m = node-keeps env p MayCome DeedHits rules_hit g at m

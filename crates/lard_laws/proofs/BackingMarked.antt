@@ -1,6 +1,6 @@
 -- Each record of a connection that the schedule did not touch may stand by what the journal marks of it.
-use Rattle.std.proofs.Common.{◌≡◌, ◌≤◌, ◌^◌, ℕ, false, List, [], Some, None, sym, ap, ◌∙◌, subst}
-use Rattle.lard_law_view.specs.Prelude.{Config, EachMay, EachRow, FilesAt, IsReached, Machine, Rec, Seen, Tale, WhileUntouched, conn, file_at, is_touched, own, plain, tale_of, whose}
+use Rattle.std.proofs.Common.{◌≡◌, ℕ, false, List, [], Some, None, sym, ap, ◌∙◌, subst, Ok}
+use Rattle.lard_law_view.specs.Prelude.{Config, EachMay, EachRow, FilesAt, IsReached, Machine, Rec, Seen, Tale, WhileUntouched, config_check, conn, file_at, is_touched, own, plain, tale_of, whose}
 use Rattle.lard_laws.specs.BackingState.{MayBack}
 use Rattle.lard_laws.proofs.BackingMarks.{MayMark}
 use Rattle.lard_laws.proofs.BackingRows.{Mine}
@@ -34,8 +34,8 @@ module _ (files : FilesAt) where
   nobody J r e d f u = let no : None ≡ Some d = sym e ∙ f in absurd (let f : ⊥ = cc in f)
 
 -- each record of a connection that the schedule did not touch may stand by what is marked of it
-pub marks-lawful : (config : Config) (files : List (List ℕ × List ℕ)) (m : Machine) → config.stream ≤ 2 ^ 30 → IsReached config files m → EachMay (MayMark (file_at files)) [] m.journal
+pub marks-lawful : (config : Config) (files : List (List ℕ × List ℕ)) (m : Machine) → config_check config ≡ Ok tt → IsReached config files m → EachMay (MayMark (file_at files)) [] m.journal
 unfolding conn
-marks-lawful config files m small r = carried-records config files (MayMark (file_at files)) (seen_so (file_at files)) (nobody (file_at files)) (somebody (file_at files)) each m r where
+marks-lawful config files m checked r = carried-records config files (MayMark (file_at files)) (seen_so (file_at files)) (nobody (file_at files)) (somebody (file_at files)) each m r where
   each : (m : Machine) → IsReached config files m → (q : ℕ) → EachRow (seen_so (file_at files) q) [] (conn m q).seen
-  each m r q = (each-backed config files small m r q).1
+  each m r q = (each-backed config files checked m r q).1

@@ -86,12 +86,12 @@ module _ (m : Machine) (view : IsViewed m) (e : Event) (n : Machine) (step : Nod
 -- ---- every state
 
 pub jobs-are-asked : JobsAreAsked
-jobs-are-asked config files m small r = (carried-keep config files (λ k. AreLawful MustQueue k.journal) (refl, tt)
+jobs-are-asked config files m checked r = (carried-keep config files (λ k. AreLawful MustQueue k.journal) (refl, tt)
     (λ k n e on lawful rule is.
     let after : IsAfter k e n = step-after k on.view e n rule is in
     let good : Good k n = ⊎_elim
     (λ (stay : NodesStay k e n). mild-good k n (stays-still k on.view e n rule is stay))
-    (λ (step : NodeStep k e n). node-good k on.view e n step (node-hits config files small k on (reached-hit config files small k on.reached) e n step))
+    (λ (step : NodeStep k e n). node-good k on.view e n step (node-hits config files checked k on (reached-hit config files checked k on.reached) e n step))
     (node-form k n e is) in
     let same : good.0 ≡ after.step = cancel k.journal good.0 after.step (sym good.1 ∙ after.is) in
     subst (AreLawful MustQueue) (sym after.is) (one-more MustQueue k.journal after.step after.one lawful (subst (MustQueue k.journal) same good.2)))

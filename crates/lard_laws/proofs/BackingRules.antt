@@ -1,12 +1,13 @@
 -- Each rule leaves what is said of a connection's requests right, so it is in every run.
-use Rattle.std.proofs.Common.{◌≡◌, ◌≤◌, ◌^◌, ℕ, false, List, [], ◌∷◌, ◌++◌, ◌+◌, length, refl, sym, ◌∙◌, subst}
-use Rattle.lard_law_view.specs.Prelude.{AreSent, Client, ClientRules, Completed, Config, Conn, ControlBlock, EachRow, FilesAt, FrontRules, Guarded, IsGuardedLaw, IsNodeEnv, MayRestOn, Move, Node, NodeDeed, NodeEnv, NodeGets, NodePart, NodeRules, OfEach, Place, Rec, Seen, Setting, Stay, Untouched, UntouchedRules, Work, after_timer, again_sent, brought_said, came_for, come_progress, content_bytes, content_said, file_at, goes_on, gone, grown, node_does, node_fired, node_saying, nothing_said, offered_by, on_segment, packet_seen, read_progress, seen_in, serving, serving_ready_of, setting, spoken, stands, tagged, taken_sent, tale_at, timed, with_leaving, with_work, without, work_of}
+use Rattle.std.proofs.Common.{◌≡◌, ◌≤◌, ◌^◌, ℕ, false, List, [], ◌∷◌, ◌++◌, ◌+◌, length, refl, sym, ◌∙◌, subst, Ok}
+use Rattle.lard_base.proofs.Usable.{usable}
+use Rattle.lard_law_view.specs.Prelude.{AreSent, Client, ClientRules, Completed, Config, Conn, ControlBlock, EachRow, FilesAt, FrontRules, Guarded, IsGuardedLaw, IsNodeEnv, MayRestOn, Move, Node, NodeDeed, NodeEnv, NodeGets, NodePart, NodeRules, OfEach, Place, Rec, Seen, Setting, Stay, Untouched, UntouchedRules, Work, after_timer, again_sent, brought_said, came_for, come_progress, config_check, content_bytes, content_said, file_at, gives_back, goes_on, gone, grown, kept_refused, node_does, node_fired, node_saying, nothing_said, offered_by, on_segment, packet_seen, read_progress, refused_sent, seen_in, serving, serving_ready_of, setting, spoken, stands, tagged, taken_sent, tale_at, timed, told_kind, with_leaving, with_work, without, work_of}
 use Rattle.lard_base.specs.declared.place.TimerKind.TheVariants as timer
 use Rattle.lard_laws.specs.BackingState.{FetchesFor, LetterFor, SaysFor}
 use Rattle.lard_laws.proofs.BackingFronts.{front-makes}
-use Rattle.lard_laws.proofs.BackingMoving.{Keeps, again-for, content-for, nodes-for, makes, others-for}
+use Rattle.lard_laws.proofs.BackingMoving.{Keeps, again-for, content-for, makes, nodes-for, others-for}
 use Rattle.lard_laws.proofs.BackingNodes.{came-clean, deed-makes, fired-back, fresh, goes-back, hand-at, most-written, still-makes}
-use Rattle.lard_laws.proofs.BackingTurns.{AreAt, Clean, DeedBacks, IsSteady, SaidFor, tagged-clean}
+use Rattle.lard_laws.proofs.BackingTurns.{AreAt, Clean, DeedBacks, IsSteady, SaidFor, gives-back, goes-clean, tagged-clean}
 use Rattle.lard_laws.proofs.NodeHere.{here-of}
 use Rattle.lard_laws.proofs.NodeStays.{StayHolds, stay-holds}
 use Rattle.lard_laws.proofs.WaysHomes.{sent-append}
@@ -36,7 +37,7 @@ use Rattle.lard_history.proofs.Each.{Each}
 use Rattle.lard_journal.specs.declared.rec.Rec.TheVariants as rec
 use Rattle.lard_handoff_back.specs.declared.table.Adopt.TheVariants.{New}
 use Rattle.lard_law_view.proofs.EachNode.{Answers, Aside, Brings, MayAside, NodeComes, Queues, aside_said, aside_seen, each-node, job_notes, node_goes, told_first}
-use Rattle.lard_rules.proofs.NodeCases.{IsHereWith, KeptByNode, node-keeps}
+use Rattle.lard_rules.proofs.NodeCases.{IsHereWith, KeptByNode, Turned, node-keeps}
 use Rattle.lard_rules.specs.Node.{Does, Says}
 use Rattle.lard_law_view.proofs.EachFront.{each-front}
 
@@ -106,8 +107,11 @@ module _ (k : Setting) (small : k.stream ≤ 2 ^ 30) where
         (hand-at k small x y.station y.there truth.talk truth.pend y.opened n epoch env is y.it help.placed (b, t) (here-of env.epoch ours b t at)) again) help g old
 
     turns : (b : ControlBlock) (t : Stay) → IsHereWith env.epoch ours b t → (q : NodePart) (w : Work)
-        → (length marks.wrote ≤ 2 ^ 30 → AreAt marks.wrote (t.served + 1) t.batch → Clean env marks w) → After (with_work env q [] (goes_on env w))
-    turns b t at q w clean = does-here b t at (with_work env q [] (goes_on env w)) (λ most are again. goes-back env marks most ours q w (clean most are))
+        → (length marks.wrote ≤ 2 ^ 30 → AreAt marks.wrote (t.served + 1) t.batch → Clean env marks w) → Turned After env q [] (goes_on env w)
+    turns b t at q w clean = (
+      λ rests. does-here b t at (with_work env q [] (goes_on env w)) (λ most are again. goes-back env marks most ours q w (clean most are)),
+      λ back. does-here b t at (gives_back env q [] (goes_on env w)) (λ most are again. gives-back env marks most q [] (goes_on env w) tt (goes-clean env marks w (clean most are))),
+    )
 
     rules_keep : KeptByNode env ours Comes After
     rules_keep = record {
@@ -118,17 +122,19 @@ module _ (k : Setting) (small : k.stream ≤ 2 ^ 30) where
       comes = λ from r b t m at wanted.
           turns b t at (record ours { fetches = without timer.Fetch r ours.fetches }) (came_for (come_progress from) r (work_of b t)) (λ most are. came-clean env marks most ours (come_progress from) r b t);
       reads = λ r path b t m at. turns b t at ours (came_for read_progress r (work_of b t)) (λ most are. came-clean env marks most ours read_progress r b t);
-      begins = λ parts m new.
+      begins = λ parts m new may.
           let s = opened-at k.files x truth (front-opens x n m.0.bytes m.0.was) in
           alone m.1 (offered_by env parts ours New) (new-makes k small x s.0 s.1 truth.talk truth.pend (open-at k.files x s.0 s.1 truth) n epoch env is parts m.0.bytes m.0.spells m.0.was heads new);
       takes_again = λ parts m again. alone m.1 (Says (taken_sent env)) (makes env.serve.files x (node_does x n heads (Says (taken_sent env))) tt tt (tt, tt));
+      refuses = λ parts m is. alone m.1 (Does (kept_refused env ours, node_saying (refused_sent env))) (makes env.serve.files x (node_does x n heads (Does (kept_refused env ours, node_saying (refused_sent env)))) tt tt (tt, tt));
       fires = λ b t m at.
           does-here b t at (Does (node_fired env ours (b, t) (spoken env.serve (serving (after_timer b) t.served []) (serving_ready_of env.serve (after_timer b) (timed b)))))
           (λ most are again. fired-back env marks most ours again b t);
       resends = λ m none. alone m.1 (Says (again_sent ours))
           (λ help g old. makes env.serve.files x (node_does x n heads (Says (again_sent ours))) tt tt (nodes-for env.serve.files marks.wrote n (again_sent ours) (again-said (help.sound.kept n) (help.sound.fetches n) old)) help g old);
-      ends = λ m told. alone m.1 (Does (record ours { row = gone ours.row; kept = without timer.Ended 0 ours.kept }, node_saying []))
-          (makes env.serve.files x (node_does x n heads (Does (record ours { row = gone ours.row; kept = without timer.Ended 0 ours.kept }, node_saying []))) tt tt tt);
+      ends = λ back m told was. alone m.1 (Does (record ours { row = gone ours.row; kept = without (told_kind back) 0 ours.kept }, node_saying []))
+          (makes env.serve.files x (node_does x n heads (Does (record ours { row = gone ours.row; kept = without (told_kind back) 0 ours.kept }, node_saying []))) tt tt tt);
+      leaves = λ b t m at back. does-here b t at (gives_back env ours [] (work_of b t)) (λ most are again. gives-back env marks most ours [] (work_of b t) tt (fresh env marks most ours b t));
     }
 
   jobs-steady : (x : Conn) (files : FilesAt) (n : ℕ) (g : NodeGets) → Each (IsSteady files (marks_at x)) (job_notes x.c n g)
@@ -150,7 +156,7 @@ module _ (k : Setting) (small : k.stream ≤ 2 ^ 30) where
         let first : List Rec = job_notes x.c n g in
         let steady : Each (IsSteady env.serve.files (marks_at x)) first = jobs-steady x env.serve.files n g in
         subst (λ (f : FilesAt). Keeps f x (node_goes x n env heads g)) is.files
-        (node-keeps env (x.part.nodes n) (Comes x h n epoch env is heads first steady) (After x h n epoch env is heads first steady) (rules_keep x h n epoch env is heads first steady) g at (comes, refl));
+        (node-keeps env (x.part.nodes n) (Comes x h n epoch env is heads first steady) (After x h n epoch env is heads first steady) (rules_keep x h n epoch env is heads first steady) g at.0 (comes, refl));
     aside = asides-keep;
   })
 
@@ -191,11 +197,14 @@ module _ (k : Setting) (small : k.stream ≤ 2 ^ 30) where
 
 -- ---- every run
 
-module _ (config : Config) (files : List (List ℕ × List ℕ)) (small : config.stream ≤ 2 ^ 30) where
+module _ (config : Config) (files : List (List ℕ × List ℕ)) (checked : config_check config ≡ Ok tt) where
   abbrev k : Setting
   k = setting config files
+
+  small : config.stream ≤ 2 ^ 30
+  small = (usable config checked).stream
 
   pub each-backed : OfEach config files (Guarded (FetchesFor (file_at files)) (λ c. Mine (file_at files) c))
   each-backed = carried config files (Given k small) (Guarded (FetchesFor (file_at files)) (λ c. Mine (file_at files) c))
       (λ l. guarded-law (with_leaving k l) (Given k small) (FetchesFor (file_at files)) (λ c. Mine (file_at files) c) (backing-law (with_leaving k l) small))
-      (λ m r q. (each-placed config files m r q, states-truthful config files small m r q, (each-guarded config files small m r q).0))
+      (λ m r q. (each-placed config files checked m r q, states-truthful config files checked m r q, (each-guarded config files checked m r q).0))

@@ -1,8 +1,8 @@
 -- What each connection's records say of its requests, the journal says.
-use Rattle.std.proofs.Common.{◌≡◌, ◌≤◌, ◌^◌, ℕ, List, [], ◌∷◌, length, Some, refl, sym, ap, ◌∙◌, subst, inl, inr}
+use Rattle.std.proofs.Common.{◌≡◌, ℕ, List, [], ◌∷◌, length, Some, refl, sym, ap, ◌∙◌, subst, inl, inr, Ok}
 use Rattle.std.proofs.lemmas.List.{length-map}
 use Rattle.std.specs.Prelude.{◌⊎◌}
-use Rattle.lard_law_view.specs.Prelude.{Config, Conn, FilesAt, Has, IsConnNumber, IsReached, Machine, Rec, Row, assigned, blank_conn, conn, file_at, net_of, net_step, own, plain, seen_of, seen_on, whose}
+use Rattle.lard_law_view.specs.Prelude.{Config, Conn, FilesAt, Has, IsConnNumber, IsReached, Machine, Rec, Row, assigned, blank_conn, config_check, conn, file_at, net_of, net_step, own, plain, seen_of, seen_on, whose}
 use Rattle.lard_laws.specs.BackingRequests.{MayAnswerFrom, MayName}
 use Rattle.lard_laws.specs.BackingRuns.{JobsStartWhenTold, JournalsNameRequests, PlacesAnswer, ResponsesAreBacked}
 use Rattle.lard_laws.proofs.BackingAnswering.{answers-from}
@@ -35,14 +35,14 @@ module _ (files : FilesAt) where
   names past _ may = tt
 
 pub requests-named : JournalsNameRequests
-requests-named config files m small r = each_weaker (MayMark (file_at files)) (MayName (file_at files)) (names (file_at files)) [] m.journal (marks-lawful config files m small r)
+requests-named config files m checked r = each_weaker (MayMark (file_at files)) (MayName (file_at files)) (names (file_at files)) [] m.journal (marks-lawful config files m checked r)
 
 pub home-answers : PlacesAnswer
-home-answers config files m small r =
+home-answers config files m checked r =
     let fs : FilesAt = file_at files in
     each-from (MayAnswerFrom fs) m.journal (λ a b x is. answers-from fs a x
-    (each-at (MayServeOwned fs) m.journal a b x is (journals-serve config files m small r))
-    (each-at (MayComeThisWay fs) m.journal a b x is (contents-come config files m small r)))
+    (each-at (MayServeOwned fs) m.journal a b x is (journals-serve config files m checked r))
+    (each-at (MayComeThisWay fs) m.journal a b x is (contents-come config files m checked r)))
 
 -- ---- what was read or came
 
@@ -68,13 +68,13 @@ whole-steps config files m r = carried-keep config files (λ k. AreLawful (λ pa
     (λ k n e on h rule is. let after : IsAfter k e n = step-after k on.view e n rule is in subst (AreLawful (λ past s. Unit {0})) (sym after.is) (one-more (λ past s. Unit {0}) k.journal after.step after.one h tt)) m r
 
 -- what is known of a journal
-known-of : (config : Config) (files : List (List ℕ × List ℕ)) (m : Machine) → config.stream ≤ 2 ^ 30 → IsReached config files m → Known (file_at files) config.cache m.journal
-known-of config files m small r = record {
-  marks = marks-lawful config files m small r;
-  hits = (reached-hit config files small m r).law;
+known-of : (config : Config) (files : List (List ℕ × List ℕ)) (m : Machine) → config_check config ≡ Ok tt → IsReached config files m → Known (file_at files) config.cache m.journal
+known-of config files m checked r = record {
+  marks = marks-lawful config files m checked r;
+  hits = (reached-hit config files checked m r).law;
   stores = lawful config files m r;
-  ways = contents-come config files m small r;
-  service = journals-serve config files m small r;
+  ways = contents-come config files m checked r;
+  service = journals-serve config files m checked r;
   whole = (whole-steps config files m r).0;
   brings = contents-are-files config files m r;
   reads = disks-read config files m r;
@@ -82,8 +82,8 @@ known-of config files m small r = record {
 }
 
 pub responses-backed : ResponsesAreBacked
-responses-backed config files m small r = all-backed (file_at files) config.cache m.journal (known-of config files m small r)
+responses-backed config files m checked r = all-backed (file_at files) config.cache m.journal (known-of config files m checked r)
 
 -- no job of a node itself starts before it is told
 pub jobs-start : JobsStartWhenTold
-jobs-start config files m small r = all-start (file_at files) config.cache m.journal (known-of config files m small r) (assign-in-order config files m small r)
+jobs-start config files m checked r = all-start (file_at files) config.cache m.journal (known-of config files m checked r) (assign-in-order config files m checked r)

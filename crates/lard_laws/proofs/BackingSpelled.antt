@@ -1,14 +1,12 @@
 -- What is read of a Fetch, and of a content, is what was said: its request's number and its path.
-use Rattle.std.proofs.Common.{◌≡◌, ◌≤◌, ◌<◌, ◌+◌, ◌^◌, nat_lt, not, ℕ, zero, suc, Bool, true, false, cond, List, [], ◌∷◌, ◌++◌, map, length, drop, Option, Some, None, Result, Ok, Err, refl, sym, ap, ◌∙◌, subst, arith}
+use Rattle.std.proofs.Common.{◌≡◌, ◌≤◌, ◌<◌, ◌+◌, ◌^◌, nat_lt, not, ℕ, zero, suc, Bool, true, false, cond, List, [], ◌∷◌, ◌++◌, length, Option, Some, None, Result, Ok, Err, refl, sym, ap, ◌∙◌, subst, arith}
 use Rattle.std.proofs.lemmas.List.{append-nil}
-use Rattle.std.proofs.lemmas.Bool.{cond_both, ltb-false}
+use Rattle.std.proofs.lemmas.Bool.{ltb-false}
 use Rattle.std.specs.Int.{from_be_bytes, to_be_bytes, w32}
 use Rattle.std.specs.List.{slice_get}
-use Rattle.lard_law_view.specs.Prelude.{Body, FilesAt, Found, Head, Kind, Long, Message, MsgFault, Verdict, and_path, blocks, body_bytes, content_at, counted_at, counted_bytes, cut_of, decoded_message, fetch_at, good_path, is_version, kind_named, length_at, number_at, number_byte, piece_moved, pieces, pieces_from, spelled_message, taken_at, until_close, verdicts, verdicts_on, version_at, with_kind}
-use Rattle.lard_answers.proofs.Growing.{until_close-cons, until_close-nil, verdicts-are}
-use Rattle.lard_block.specs.declared.block.Found.TheVariants.{Block, More, TooLong}
-use Rattle.lard_block.specs.Blocks.{Piece}
+use Rattle.lard_law_view.specs.Prelude.{Body, FilesAt, Kind, Message, MsgFault, Verdict, and_path, body_bytes, content_at, counted_at, counted_bytes, decoded_message, fetch_at, good_path, is_version, kind_named, length_at, number_at, number_byte, spelled_message, taken_at, verdicts, version_at, with_kind}
 use Rattle.lard_laws.specs.BackingRequests.{IsFor}
+use Rattle.lard_law_connections.proofs.FewVerdicts.{verdicts-few}
 use Rattle.lard_law_connections.proofs.PlacesHeads.{spelled-body}
 use Rattle.lard_laws.specs.Ways.{good_paths}
 use Rattle.lard_laws.proofs.WaysShort.{wanted-short}
@@ -19,50 +17,12 @@ use Rattle.lard_message.proofs.Fields.{bind_then, counted_alone, number_again, s
 use Rattle.lard_message.proofs.Spelled.{length-spelled}
 use Rattle.lard_rules.specs.Node.{message}
 
--- ---- no more requests than bytes
-
-abbrev IsFew : ℕ → List Piece → Type 0
-IsFew n ps = length ps ≤ n
-
-moved-few : (by : ℕ) (ps : List Piece) → length (map (piece_moved by) ps) ≡ length ps
-moved-few by [] = refl
-moved-few by (p ∷ ps) = ap suc (moved-few by ps)
-
-from-few : (n : ℕ) (q : List ℕ) (later : ℕ → List Piece) → ((k : ℕ) → IsFew n (later k)) → (f : Found) → IsFew (suc n) (pieces_from q later f)
-from-few n q later h (Block skip len) = let le = h (skip + len) in omega (arith, le)
-from-few n q later h (More skip) = omega arith
-from-few n q later h (TooLong skip) = omega arith
-
-pieces-few : (n : ℕ) (q : List ℕ) → IsFew n (pieces n q)
-unfolding pieces
-pieces-few zero q = omega arith
-pieces-few (suc n) q = from-few n q (λ used. map (piece_moved used) (pieces n (drop used q)))
-    (λ used. let le = pieces-few n (drop used q) in let same = moved-few used (pieces n (drop used q)) in omega (arith, le, same)) (cut_of q)
-
-blocks-few : (q : List ℕ) → length (blocks q) ≤ length q
-unfolding blocks
-blocks-few q = pieces-few (length q) q
-
-on-few : (ps : List Piece) → length (verdicts_on ps) ≤ length ps
-on-few [] = omega arith
-on-few (Head block after ∷ ps) = let le = on-few ps in omega (arith, le)
-on-few (Long ∷ ps) = let le = on-few ps in omega (arith, le)
-
-until-few : (vs : List Verdict) → length (until_close vs) ≤ length vs
-until-few [] = subst (λ (us : List Verdict). length us ≤ 0) (sym until_close-nil) (omega arith)
-until-few (v ∷ vs) = subst (λ (us : List Verdict). length us ≤ suc (length vs)) (sym (until_close-cons v vs))
-    (let le = until-few vs in cond_both _ [] (until_close vs) (λ (us : List Verdict). suc (length us) ≤ suc (length vs)) (λ t. omega arith) (λ t. omega (arith, le)))
-
-verdicts-few : (q : List ℕ) → length (verdicts q) ≤ length q
-verdicts-few q = subst (λ (us : List Verdict). length us ≤ length q) (sym (verdicts-are q))
-    (let a = until-few (verdicts_on (blocks q)) in let b = on-few (blocks q) in let c = blocks-few q in omega (arith, a, b, c))
+-- ---- its number and its path are in range
 
 pub got-within : (vs : List Verdict) (i : ℕ) (v : Verdict) → slice_get vs i ≡ Some v → i < length vs
 got-within [] i v e = let no : None ≡ Some v = e in absurd (let f : ⊥ = cc in f)
 got-within (x ∷ vs) zero v e = omega arith
 got-within (x ∷ vs) (suc i) v e = let le = got-within vs i v e in omega (arith, le)
-
--- ---- its number and its path are in range
 
 pub number-small : (files : FilesAt) (wrote : List ℕ) (r : ℕ) (path : List ℕ) → length wrote ≤ 2 ^ 30 → IsFor files wrote r path → r < 2 ^ 32
 number-small files wrote r path most h =

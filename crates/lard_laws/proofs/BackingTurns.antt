@@ -2,7 +2,7 @@
 use Rattle.std.proofs.Common.{◌≡◌, ◌≤◌, ◌+◌, ◌^◌, ◌==◌, nat_lt, ℕ, Bool, true, false, List, [], ◌∷◌, ◌++◌, map, length, slice_get, Option, Some, None, refl, sym, ap, ◌∙◌, subst, arith, append_assoc, eq-eqb, ◌≢◌}
 use Rattle.std.proofs.lemmas.Bool.{both_ways, cond_both}
 use Rattle.std.proofs.lemmas.List.{length_push}
-use Rattle.lard_law_view.specs.Prelude.{Asked, Client, Done, Ending, Entry, FilesAt, IsPrefix, More, Next, Node, NodeDeed, NodeEnv, NodePart, NodeTurn, Place, Progress, Rec, Service, Step, Turn, Verdict, Want, Work, all_sent, answer, answer_code, asked_sent, asks_for, batch_of, bytes_used, ended_sent, entered, enters, enters_first, fetch_of, finishing, goes_on, good_path, kept_after, named_path, named_paths, next_of, passed_over, path_in, queued, read_entry, reads_these, serves_by, serves_first, serves_with, serving_consumed, serving_settled, started, started_here, started_there, starts_at, starts_named, starts_one, state_of, stay_turn, tagged, turn_by, turned, verdicts, wants_sent, with_work, work_left}
+use Rattle.lard_law_view.specs.Prelude.{Asked, Client, Done, Ending, Entry, FilesAt, IsPrefix, More, Next, Node, NodeDeed, NodeEnv, NodePart, NodeTurn, Place, Progress, Rec, Service, Step, Turn, Verdict, Want, Work, all_sent, answer, answer_code, asked_sent, asks_for, batch_of, bytes_used, ended_sent, entered, enters, enters_first, fetch_of, finishing, give_kept, gives_back, goes_on, good_path, kept_after, named_path, named_paths, next_of, passed_over, path_in, queued, read_entry, reads_batch, reads_these, sent_of, serves_by, serves_first, serves_with, serving_consumed, serving_settled, started, started_here, started_there, starts_at, starts_named, starts_one, state_of, stay_turn, tagged, turn_by, turned, verdicts, wants_sent, with_work, work_left}
 use Rattle.lard_laws.specs.BackingRequests.{IsFor}
 use Rattle.lard_laws.specs.BackingState.{BodyFor, MayBack, SaysFor}
 use Rattle.lard_laws.proofs.BackingRows.{Backs}
@@ -171,7 +171,7 @@ module _ (env : NodeEnv) (m : WayMarks) where
 
   turned-clean : (k : Work) (n : Next) → Clean k → StepClean (turned env k n)
   turned-clean k next.Serve h = in-order k k.batch h
-  turned-clean k next.Read h = these-clean (bytes_used 8 k.service.block.recv.unread) k (batch_of 8 k.service.block.recv.unread) h
+  turned-clean k next.Read h = cond_both env.leaving (Done k) (reads_batch env false k) StepClean (λ leaves. h) (λ stays. these-clean (bytes_used 8 k.service.block.recv.unread) k (batch_of 8 k.service.block.recv.unread) h)
   turned-clean k next.Stop h = h
 
   pub goes-clean : (k : Work) → Clean k → Clean (goes_on env k)
@@ -266,14 +266,22 @@ module _ (env : NodeEnv) (m : WayMarks) where
     wants-say [] h = tt
     wants-say (w ∷ ws) h = (want-says w h.0, wants-say ws h.1)
 
+    all-say : (before : List (Place × List ℕ)) (k : Work) → Each SaidFor before → Clean k → Each SaidFor (all_sent env before k)
+    all-say before k said h =
+        Each-append SaidFor (before ++ asked_sent env k.asked) (wants_sent env k.wants) (Each-append SaidFor before (asked_sent env k.asked) said (asked-says k.asked)) (wants-say k.wants h.wants)
+
     pub ends-back : (p : NodePart) (before : List (Place × List ℕ)) (k : Work) (given : Ending × Turn) → Each SaidFor before → given.1.notes ≡ k.service.notes → AllTo (Client env.serve.c) given.1.segments → Clean k → DeedBacks (Does (kept_after env p k given.0, turn_by env before k given))
     ends-back p before k given said notes to h = record {
       notes = subst (Each (IsSteady files m)) (sym notes) h.notes;
       segments = to;
       messages = Each-append SaidFor (all_sent env before k) (ended_sent env k.service.over given.0)
-          (Each-append SaidFor (before ++ asked_sent env k.asked) (wants_sent env k.wants) (Each-append SaidFor before (asked_sent env k.asked) said (asked-says k.asked)) (wants-say k.wants h.wants))
+          (all-say before k said h)
           (ended-says k.service.over given.0);
     }
 
     pub works-back : (p : NodePart) (before : List (Place × List ℕ)) (k : Work) → Each SaidFor before → Clean k → DeedBacks (with_work env p before k)
     works-back p before k said h = let is = settled-is env.serve k.service in ends-back p before k (serving_settled env.serve k.service) said is.notes is.to h
+
+    -- or the connection goes back
+    pub gives-back : (p : NodePart) (before : List (Place × List ℕ)) (k : Work) → Each SaidFor before → Clean k → DeedBacks (gives_back env p before k)
+    gives-back p before k said h = record { notes = h.notes; segments = tt; messages = Each-append SaidFor (all_sent env before k) (sent_of (give_kept env k) ∷ []) (all-say before k said h) (tt, tt) }

@@ -116,10 +116,11 @@ module _ (k : NodeSetting) (i : BackIn) where
     Asked _ c _ = Unit {0}
 
     hears-hits : (s : NodeState) (from : Place) (c epoch : ℕ) (b : Body) → Asked from c b → NodeHits k base s → BodyKnown k base s from c epoch b → StepHits base (node_hears k s from c epoch b)
-    hears-hits s Front c epoch (body.Offer parts) asked h known = deed-hits s c epoch _ h (rule-hit (node_env k s c epoch) refl base (node_part s c) (Offered parts) tt known)
+    hears-hits s Front c epoch (body.Offer parts) asked h known = deed-hits s c epoch _ h (rule-hit (node_env k s c epoch) refl base (node_part s c) (Offered parts) tt (h c, known))
     hears-hits s Front c epoch (body.Forward bytes) asked h known = deed-hits s c epoch _ h (rule-hit (node_env k s c epoch) refl base (node_part s c) (Forwarded (decoded bytes c ToCluster)) tt (h c))
     hears-hits s Front c epoch (body.Tag number nodes) asked h known = deed-hits s c epoch _ h (rule-hit (node_env k s c epoch) refl base (node_part s c) (Tagged number nodes) tt (h c, known))
-    hears-hits s Front c epoch body.EndedAck asked h known = deed-hits s c epoch _ h (rule-hit (node_env k s c epoch) refl base (node_part s c) Acknowledged tt (h c))
+    hears-hits s Front c epoch body.EndedAck asked h known = deed-hits s c epoch _ h (rule-hit (node_env k s c epoch) refl base (node_part s c) (Acknowledged false) tt (h c))
+    hears-hits s Front c epoch body.Given asked h known = deed-hits s c epoch _ h (rule-hit (node_env k s c epoch) refl base (node_part s c) (Acknowledged true) tt (h c))
     hears-hits s (Node from) c epoch (body.Fetch r path) asked h known = fetched-hits s from c epoch r path (k.files path) known asked h
     hears-hits s (Node from) c epoch (body.Content r bytes) asked h known = deed-hits s c epoch _ h (rule-hit (node_env k s c epoch) refl base (node_part s c) (Content from r) tt known)
     hears-hits s _ c epoch _ asked h known = stays s h

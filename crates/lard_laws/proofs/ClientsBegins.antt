@@ -1,6 +1,6 @@
 -- A connection has one first number of the cluster's side wherever it is, in every run: each rule keeps it.
 use Rattle.std.proofs.Common.{◌≡◌, ◌<◌, ◌^◌, ℕ, List, [], ◌∷◌, ◌++◌, map, Option, Some, None, Ok, refl, sym, ap, ◌∙◌, subst}
-use Rattle.lard_law_view.specs.Prelude.{AreSent, ClientBlock, ClientRules, Config, Conn, ControlBlock, EndpointParts, Front, FrontEnv, FrontFires, FrontGets, FrontHears, FrontRow, FrontRules, IsConnSound, IsFrontEnv, IsLaw, IsNodeEnv, Kept, MayRestOn, Move, Node, NodeEnv, NodeRules, OfEach, Place, Rec, ReturnedBy, Rules, Said, Seen, Setting, Station, Turn, TurnSaid, adopted, client_begins, client_does, client_injects, client_opens, client_rule, front_does, front_rule, grown, inject_seen, letter, letters_of, node_does, nothing_said, packet_seen, sent_of, setting, stands, with_leaving}
+use Rattle.lard_law_view.specs.Prelude.{AreSent, ClientBlock, ClientRules, Config, Conn, ControlBlock, EndpointParts, Front, FrontEnv, FrontFires, FrontGets, FrontHears, FrontRow, FrontRules, IsConnSound, IsFrontEnv, IsLaw, IsNodeEnv, Kept, MayRestOn, Move, Node, NodeEnv, NodeRules, OfEach, Place, Rec, ReturnedBy, Rules, Said, Seen, Setting, Station, Turn, TurnSaid, adopted, client_begins, client_does, client_injects, client_opens, client_rule, config_check, front_does, front_rule, grown, inject_seen, letter, letters_of, node_does, nothing_said, packet_seen, sent_of, setting, stands, with_leaving}
 use Rattle.lard_law_view.proofs.EachClient.{client_seen, each-client}
 use Rattle.lard_history.proofs.Each.{Each, Each-append}
 use Rattle.lard_law_connections.proofs.PlacesFrontMessages.{no-give}
@@ -161,16 +161,18 @@ module _ (k : Setting) where
   -- the parts of an Offer that came, and what is here
   given-first : (x : Conn) (n epoch iss : ℕ) (env : NodeEnv) (heads : List Seen) (all : AllHaveFirst x iss) (g : node.NodeGets) → NodeComes x n epoch heads g
       → nodes.Given env (IssIs iss) (IssIs iss) AnyBlock Anything (Reply iss) (first-kept iss env.serve) (x.part.nodes n) g
-  given-first x n epoch iss env heads all (node.Offered parts) comes = λ new.
-      has-each (LetterHasFirst x.c iss) (record { from = Front; to = Node n; bytes = comes.bytes }) x.letters comes.was all.letters
-      (record { c = x.c; epoch = record { 0 = epoch }; body = body.Offer parts }) comes.spells
+  given-first x n epoch iss env heads all (node.Offered parts) comes = (
+    all.nodes n,
+    λ new. has-each (LetterHasFirst x.c iss) (record { from = Front; to = Node n; bytes = comes.bytes }) x.letters comes.was all.letters
+        (record { c = x.c; epoch = record { 0 = epoch }; body = body.Offer parts }) comes.spells,
+  )
   given-first x n epoch iss env heads all (node.Forwarded given) comes = (all.nodes n, λ s e. tt)
   given-first x n epoch iss env heads all _ comes = all.nodes n
 
   node-rules : NodeRules k Keeps
   node-rules = each-node k Keeps (record {
     does = λ x n epoch env heads g is at comes own may. node-rule x n epoch env heads (node.node_rule env (x.part.nodes n) g) (job_notes x.c n g) is
-        (λ i small all. nodes.rule-has env (IssIs i) (IssIs i) AnyBlock Anything (Reply i) (first-kept i env.serve) (x.part.nodes n) g at
+        (λ i small all. nodes.rule-has env (IssIs i) (IssIs i) AnyBlock Anything (Reply i) (first-kept i env.serve) (x.part.nodes n) g at.0
         (given-first x n epoch i env heads all g comes)) own.messages;
     aside = λ x n a there own may h. by-number x (stands x (Node n) (aside_seen n a) (aside_said k n x.c a)) refl (λ iss small there all.
         let v : Move = stands x (Node n) (aside_seen n a) (aside_said k n x.c a) in
@@ -213,5 +215,5 @@ module _ (k : Setting) where
   }
 
 -- In every state that events lead to.
-pub one-first : (config : Config) (files : List (List ℕ × List ℕ)) → OfEach config files HasOneFirst
-one-first config files = carried config files IsPlaced HasOneFirst (λ l. first-law (with_leaving (setting config files) l)) (each-placed config files)
+pub one-first : (config : Config) (files : List (List ℕ × List ℕ)) → config_check config ≡ Ok tt → OfEach config files HasOneFirst
+one-first config files checked = carried config files IsPlaced HasOneFirst (λ l. first-law (with_leaving (setting config files) l)) (each-placed config files checked)

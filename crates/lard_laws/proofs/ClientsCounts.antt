@@ -2,7 +2,7 @@
 use Rattle.std.proofs.Common.{◌≡◌, ◌==◌, ◌||◌, not, ℕ, true, false, cond, List, [], ◌∷◌, length, Option, Some, Result, Ok, Err, ⊎_elim, refl, sym, ap, ◌∙◌, subst}
 use Rattle.std.specs.List.{fold}
 use Rattle.std.proofs.lemmas.Bool.{cond_both}
-use Rattle.lard_law_view.specs.Prelude.{Client, ClientBlock, ClientStands, ClientTale, Config, Conn, Event, Front, GoesBetween, Heard, IsConnSound, IsLaw, IsOpened, MayRestOn, Move, Node, OfEach, Phase, Place, Rules, Said, Seen, SegFault, Sending, Setting, Station, Tale, ToClient, Turn, Was, aborted, answers_syn, client_aborts, client_after_emit, client_after_timer, client_arrived, client_begins, client_does, client_gets, client_holds, client_injects, client_on_segment, client_opened, client_opens, client_shuts, client_speaks, client_taken, client_takes, client_tale, client_timer, client_writes, client_written, decoded, established, event_seen, grown, heard_in, heard_nothing, held_on, inject_seen, introduced, is_client_open, is_established, is_writing, nothing_said, on_greeting, packet_seen, peer_mss, queued_too, request, reset_by_peer, seen_step, send_closed, setting, shut_down, silent, speaking, stands, tale_at, tale_step, told_on, with_leaving}
+use Rattle.lard_law_view.specs.Prelude.{Client, ClientBlock, ClientStands, ClientTale, Config, Conn, Event, Front, GoesBetween, Heard, IsConnSound, IsLaw, IsOpened, MayRestOn, Move, Node, OfEach, Phase, Place, Rules, Said, Seen, SegFault, Sending, Setting, Station, Tale, ToClient, Turn, Was, aborted, answers_syn, client_aborts, client_after_emit, client_after_timer, client_arrived, client_begins, client_does, client_gets, client_holds, client_injects, client_on_segment, client_opened, client_opens, client_shuts, client_speaks, client_taken, client_takes, client_tale, client_timer, client_writes, client_written, config_check, decoded, established, event_seen, grown, heard_in, heard_nothing, held_on, inject_seen, introduced, is_client_open, is_established, is_writing, nothing_said, on_greeting, packet_seen, peer_mss, queued_too, request, reset_by_peer, seen_step, send_closed, setting, shut_down, silent, speaking, stands, tale_at, tale_step, told_on, with_leaving}
 use Rattle.lard_base.specs.declared.event.Event.TheVariants as event
 use Rattle.lard_client.specs.declared.phase.Phase.TheVariants.{Aborted, Open, Reset}
 use Rattle.lard_client.proofs.Outcomes.{Quiet, Took, segment-outcome}
@@ -226,5 +226,5 @@ counting k = record {
 }
 
 -- In every state that events lead to.
-pub counts-taken : (config : Config) (files : List (List ℕ × List ℕ)) → OfEach config files CountsTaken
-counts-taken config files = carried config files Given CountsTaken (λ l. counting (with_leaving (setting config files) l)) (λ m r q. (one-first config files m r q, stand-as-told config files m r q))
+pub counts-taken : (config : Config) (files : List (List ℕ × List ℕ)) → config_check config ≡ Ok tt → OfEach config files CountsTaken
+counts-taken config files checked = carried config files Given CountsTaken (λ l. counting (with_leaving (setting config files) l)) (λ m r q. (one-first config files checked m r q, stand-as-told config files m r q))

@@ -177,9 +177,9 @@ taking : (k : Setting) → Rules k (λ x v. Owed Takes x v × IsFine x v)
 taking k = both k (Owed Takes) IsFine (owing k) (fine k)
 
 pub clients-take : ClientsTakeInOrder
-clients-take config files m r = carried-keep config files (λ k. TakesInOrder k.journal) tt step m r where
+clients-take config files m checked r = carried-keep config files (λ k. TakesInOrder k.journal) tt step m r where
   known : (k : Machine) → IsReached config files k → (q : ℕ) → IsKnown (conn k q)
-  known k r q = record { first = one-first config files k r q; told = stand-as-told config files k r q; counts = counts-taken config files k r q }
+  known k r q = record { first = one-first config files checked k r q; told = stand-as-told config files k r q; counts = counts-taken config files checked k r q }
 
   step : (k n : Machine) (e : Event) → IsOn config files k → TakesInOrder k.journal → HasRule e → machine_step k e ≡ Ok n → TakesInOrder n.journal
   step k n e on h rule is =

@@ -2,7 +2,7 @@
 use Rattle.std.proofs.Common.{◌≡◌, ◌⊎◌, ◌<◌, ◌+◌, ◌^◌, ◌==◌, ◌&&◌, ℕ, Bool, true, false, cond, List, [], ◌∷◌, ◌++◌, length, find, is_some, Option, Some, None, Result, Ok, Err, inl, inr, ⊎_elim, refl, sym, ap, ◌∙◌, subst, eq-eqb}
 use Rattle.std.proofs.lemmas.Bool.{and_from, both_ways, cond_both}
 use Rattle.std.specs.List.{AllByRecursion}
-use Rattle.lard_law_view.specs.Prelude.{Adopt, AreInOrder, Asked, BackConn, BackRow, ControlBlock, Ending, EndpointParts, FilesAt, Front, Has, Kept, Letter, Message, MsgFault, Node, NodeDeed, NodeEnv, NodePart, Place, Row, Said, Seen, SegFault, Stay, Turn, Want, Work, after_timer, again_sent, all_sent, anew, ask_kept, asked_kept, asked_sent, awaits_ack, back_endpoint, back_held, both_of, came_for, come_by, come_progress, decoded_message, ended_sent, epoch_in, fetch_kept, fetch_of, goes_on, gone, here, is_from, is_tag_awaited, is_under, kept_after, named_paths, names_epoch, node_acknowledged, node_begins, node_content, node_fired_by, node_forwarded, node_heard_by, node_offered, node_read, node_read_by, node_saying, node_tagged, node_timer, offer_answer, offered_by, on_segment, read_progress, reads_batch, sent_of, serving, serving_ready_of, serving_settled, spoken, state_of, stay_after, staying, tagged, tagged_by, taken_sent, timed, turn_by, wants_kept, wants_sent, with_work, without, work_of}
+use Rattle.lard_law_view.specs.Prelude.{Adopt, AreInOrder, Asked, BackConn, BackRow, ControlBlock, Ending, EndpointParts, FilesAt, Front, Has, Kept, Letter, Message, MsgFault, Node, NodeDeed, NodeEnv, NodePart, Place, Row, Said, Seen, SegFault, Stay, Turn, Want, Work, after_timer, again_sent, all_sent, anew, ask_kept, asked_kept, asked_sent, awaits_told, back_endpoint, back_held, both_of, came_for, come_by, come_progress, decoded_message, ended_sent, epoch_in, fetch_kept, fetch_of, gives_back, goes_on, gone, here, is_from, is_tag_awaited, is_under, kept_after, kept_refused, may_give_back, named_paths, names_epoch, node_acknowledged, node_begins, node_content, node_fired_by, node_forwarded, node_heard_by, node_offered, node_read, node_read_by, node_saying, node_tagged, node_timer, node_turns, offer_decision, offered_by, on_segment, read_progress, reads_batch, sent_of, serving, serving_ready_of, serving_settled, spoken, state_of, stay_after, staying, tagged, tagged_by, taken_sent, timed, told_kind, turn_by, wants_kept, wants_sent, with_work, without, work_of}
 use Rattle.lard_base.specs.declared.place.TimerKind.TheVariants as kind
 use Rattle.lard_handoff_back.specs.declared.row.BackConn.TheVariants as back
 use Rattle.lard_handoff_back.specs.declared.table.Adopt.TheVariants.{New, Again, Stale, Refuse}
@@ -13,14 +13,15 @@ use Rattle.lard_law_connections.specs.Kept.{AsksFor, HereKeeps, NodeKeepsMessage
 use Rattle.lard_law_connections.specs.KeptLaws.{AnyNode}
 use Rattle.lard_law_connections.proofs.AwaitsBatches.{anew-found}
 use Rattle.lard_law_connections.proofs.KeptHere.{IsHere, here-is, here-timer}
-use Rattle.lard_law_connections.proofs.KeptNodes.{DeedFollows, DeedGoes, DeedKeeps, MayFollow, StayFollows, asks-left, content-keeps, forwarded-keeps, new-none, offered-keeps, read-keeps, tagged-keeps, timer-keeps}
+use Rattle.lard_law_connections.proofs.KeptNodes.{DeedFollows, DeedGoes, DeedKeeps, GaverLeaves, MayFollow, OfferFollows, StayFollows, asks-left, content-keeps, forwarded-keeps, new-none, offered-keeps, read-keeps, tagged-keeps, timer-keeps}
 use Rattle.lard_law_view.proofs.Nodes.{anew-all}
 use Rattle.lard_laws.specs.Due.{AskIsOut, IsContentFor, IsTagFor}
-use Rattle.lard_laws.specs.DueAnswers.{FetchKeptIsOut, HereIsOut, NamesAreOut, PartIsOut, RowIsOut, StayIsOut}
+use Rattle.lard_laws.specs.DueAnswers.{FetchKeptIsOut, HereIsOut, NamesAreOut, PartIsOut, RowIsOut, StageIsOut, StayIsOut}
 use Rattle.lard_laws.proofs.DueAnswersMoves.{AllCalm, NoneCome, StayCalm, calm-part, calm-stay, fetches-more, found-it, has-without, names-epoch, names-more, numbers-differ, part-more, sent-now}
 use Rattle.lard_laws.proofs.DueSeats.{found-is}
 use Rattle.lard_message.specs.declared.message.Body.TheVariants as body
 use Rattle.lard_resend.proofs.Ordered.{drop_all}
+use Rattle.lard_rules.proofs.NodeCases.{decision-new}
 use Rattle.lard_rules.specs.declared.places.Ending.TheVariants as ending
 use Rattle.lard_rules.specs.Node.{Drops, Says, Does}
 
@@ -155,11 +156,17 @@ module _ (env : NodeEnv) (seen ss : List Seen) where
                 let one : first ≡ own s.asks = cc in
                 numbers-differ c e y.asks k.0 k.1 ks.0 ks.1 (q ∷ qs) (path ∷ paths) (ap (λ (z : Kept). z.bytes) (one ∙ ap own next))
 
+      -- where its turn ends it rests, or nothing is awaited of it any more
+      turned-out : (part : NodePart) (w : Work) → (DeedKeeps AnyNode files c n (with_work env part [] w) → DeedFollows files e y.asks named0 (with_work env part [] w) → AreSeen n ss (with_work env part [] w) → Out (kept_after env part w (serving_settled env.serve w.service).0))
+          → DeedKeeps AnyNode files c n (node_turns env part [] w) × DeedFollows files e y.asks named0 (node_turns env part [] w) → AreSeen n ss (node_turns env part [] w) → Out (part_behind p (node_turns env part [] w))
+      turned-out part w rests g said = cond_both (may_give_back env w) (gives_back env part [] w) (with_work env part [] w)
+          (λ d. DeedKeeps AnyNode files c n d × DeedFollows files e y.asks named0 d → AreSeen n ss d → Out (part_behind p d)) (λ t g said. tt) (λ t g said. rests g.0 g.1 said) g said
+
       -- it goes on, where nothing came that answers
-      goes-out : (before : List (Place × List ℕ)) (w : Work) → StayCalm files seen ss n c e p.fetches y → DeedKeeps AnyNode files c n (with_work env p before w) → DeedFollows files e y.asks named0 (with_work env p before w)
-          → AreSeen n ss (with_work env p before w) → Out (kept_after env p w (serving_settled env.serve w.service).0)
-      goes-out before w calm kept follows said = work-out y.asks named0 p before w (same-old (names-more files seen ss n c e y.asks named0 calm.tags out.asks))
-          (fetches-more files seen ss n c e p.fetches calm.contents out.fetched) kept follows said
+      goes-out : (w : Work) → StayCalm files seen ss n c e p.fetches y → DeedKeeps AnyNode files c n (node_turns env p [] w) × DeedFollows files e y.asks named0 (node_turns env p [] w)
+          → AreSeen n ss (node_turns env p [] w) → Out (part_behind p (node_turns env p [] w))
+      goes-out w calm g said = turned-out p w (λ kept follows said. work-out y.asks named0 p [] w (same-old (names-more files seen ss n c e y.asks named0 calm.tags out.asks))
+          (fetches-more files seen ss n c e p.fetches calm.contents out.fetched) kept follows said) g said
 
     -- ---- a segment, a job, a timer
 
@@ -169,14 +176,14 @@ module _ (env : NodeEnv) (seen ss : List Seen) where
           → AreSeen n ss (node_heard_by env p r o) → Out (part_behind p (node_heard_by env p r o))
       go (Err fault) o is g said = calm-part files seen ss n c p calm outs
       go (Ok s) None is g said = calm-part files seen ss n c p calm outs
-      go (Ok s) (Some y) is g said = goes-out y.0 y.1 is [] (goes_on env (work_of (on_segment y.0 s).1 y.1)) (calm-stay files seen ss n c calm e p.fetches y.1) g.0 g.1 said
+      go (Ok s) (Some y) is g said = goes-out y.0 y.1 is (goes_on env (work_of (on_segment y.0 s).1 y.1)) (calm-stay files seen ss n c calm e p.fetches y.1) g said
 
     pub read-out : (r : ℕ) → Calm → AreSeen n ss (node_read env p r) → Out (part_behind p (node_read env p r))
     read-out r calm said = go (here env.epoch p) refl (read-keeps AnyNode env p h r) said where
       go : (o : Option (ControlBlock × Stay)) → here env.epoch p ≡ o → DeedKeeps AnyNode files c n (node_read_by env r p o) × DeedGoes files e o (node_read_by env r p o)
           → AreSeen n ss (node_read_by env r p o) → Out (part_behind p (node_read_by env r p o))
       go None is g said = calm-part files seen ss n c p calm outs
-      go (Some y) is g said = goes-out y.0 y.1 is [] (goes_on env (came_for read_progress r (work_of y.0 y.1))) (calm-stay files seen ss n c calm e p.fetches y.1) g.0 g.1 said
+      go (Some y) is g said = goes-out y.0 y.1 is (goes_on env (came_for read_progress r (work_of y.0 y.1))) (calm-stay files seen ss n c calm e p.fetches y.1) g said
 
     pub timer-out : env.epoch ≡ epoch_in p → Calm → AreSeen n ss (node_timer env p) → Out (part_behind p (node_timer env p))
     timer-out at calm said = go (both_of (back_endpoint p.row) p.stay) (sym (here-timer env.epoch p at)) (timer-keeps AnyNode env p h at) said where
@@ -192,22 +199,29 @@ module _ (env : NodeEnv) (seen ss : List Seen) where
 
     -- ---- an Offer, and the end of a stay
 
-    pub offered-out : (parts : EndpointParts) → Calm → AreSeen n ss (node_offered env p parts) → Out (part_behind p (node_offered env p parts))
-    offered-out parts calm said = go (offer_answer env.epoch p.row) refl (offered-keeps AnyNode env p h parts) said where
-      go : (a : Adopt) → offer_answer env.epoch p.row ≡ a → DeedKeeps AnyNode files c n (offered_by env parts p a) × DeedFollows files e 0 [] (offered_by env parts p a) → AreSeen n ss (offered_by env parts p a)
+    pub offered-out : (parts : EndpointParts) → GaverLeaves AnyNode env p → Calm → AreSeen n ss (node_offered env p parts) → Out (part_behind p (node_offered env p parts))
+    offered-out parts leaves calm said = go (offer_decision env.leaving env.epoch p.row p.beside) refl (offered-keeps AnyNode env p h parts leaves) said where
+      go : (a : Adopt) → offer_decision env.leaving env.epoch p.row p.beside ≡ a → DeedKeeps AnyNode files c n (offered_by env parts p a) × OfferFollows files e a (offered_by env parts p a) → AreSeen n ss (offered_by env parts p a)
           → Out (part_behind p (offered_by env parts p a))
       go New is g said =
-          let none = new-none AnyNode env p h p.row h is in
+          let none = new-none AnyNode env p h p.row h (decision-new env.leaving env.epoch p.row p.beside is).0 in
           work-out 0 [] p (taken_sent env) (goes_on env (state_of (reads_batch env true (node_begins env parts)))) (λ s follows. none-old p.kept none.0 s)
           (subst (AllByRecursion (FetchKeptIsOut now n c e)) (sym none.1) tt) g.0 g.1 said
       go Again is g said = calm-part files seen ss n c p calm outs
       go Stale is g said = calm-part files seen ss n c p calm outs
-      go Refuse is g said = calm-part files seen ss n c p calm outs
+      go Refuse is g said = refused p.row (calm-part files seen ss n c p calm outs) where
+        staged : (i : ℕ) (d : BackConn) → StageIsOut files now n c i p d → StageIsOut files now n c i (kept_refused env p) d
+        staged i (back.Here b) was = was
+        staged i _ was = tt
 
-    pub acknowledged-out : Calm → Out (part_behind p (node_acknowledged env p))
-    acknowledged-out calm =
-        let q : NodePart = record p { row = gone p.row; kept = without kind.Ended 0 p.kept } in
-        cond_both (awaits_ack env.epoch p.row) (Does (q, node_saying [])) Drops (λ d. Out (part_behind p d)) (λ t. gone-out q p.row) (λ t. calm-part files seen ss n c p calm outs) where
+        refused : (o : Option BackRow) → RowIsOut files now n c p o → RowIsOut files now n c (kept_refused env p) o
+        refused None was = tt
+        refused (Some row) was = staged row.epoch.0 row.stage was
+
+    pub acknowledged-out : (back : Bool) → Calm → Out (part_behind p (node_acknowledged env back p))
+    acknowledged-out back calm =
+        let q : NodePart = record p { row = gone p.row; kept = without (told_kind back) 0 p.kept } in
+        cond_both (awaits_told back env p) (Does (q, node_saying [])) Drops (λ d. Out (part_behind p d)) (λ t. gone-out q p.row) (λ t. calm-part files seen ss n c p calm outs) where
           gone-out : (q : NodePart) (o : Option BackRow) → RowIsOut files now n c q (gone o)
           gone-out q None = tt
           gone-out q (Some row) = tt
@@ -260,10 +274,10 @@ module _ (env : NodeEnv) (seen ss : List Seen) where
               let part : NodePart = record p { kept = without kind.Ask 0 p.kept } in
               let w : Work = goes_on env (tagged env nodes (work_of y.0 y.1)) in
               let named : List (List ℕ) = named_paths files y.1.batch in
-              cond_both (is_tag_awaited env number nodes p y.1) (with_work env part [] w) Drops
+              cond_both (is_tag_awaited env number nodes p y.1) (node_turns env part [] w) Drops
               (λ d. DeedKeeps AnyNode files c n d × DeedGoes files e (Some y) d → AreSeen n ss d → Out (part_behind p d))
-              (λ t g said. work-out y.1.asks named part [] w (λ s follows. none-old part.kept (asks-left c e y.1.asks named p.kept (keeps y.0 y.1 it).asks) s)
-              (fetches-more files seen ss n c e p.fetches (λ k has r node path is. no-content node e r) (out y.0 y.1 it).fetched) g.0 g.1 said)
+              (λ t g said. turned-out y.0 y.1 it part w (work-out y.1.asks named part [] w (λ s follows. none-old part.kept (asks-left c e y.1.asks named p.kept (keeps y.0 y.1 it).asks) s)
+              (fetches-more files seen ss n c e p.fetches (λ k has r node path is. no-content node e r) (out y.0 y.1 it).fetched)) g said)
               (λ t g said. not-counted (Some y) it (λ z is. let same : y ≡ z = cc in subst (λ (q : ControlBlock × Stay). is_tag_awaited env number nodes p q.1 ≡ false) same t))
               g said
 
@@ -308,14 +322,14 @@ module _ (env : NodeEnv) (seen ss : List Seen) where
               let w : Work = goes_on env (came_for (come_progress from) r (work_of y.0 y.1)) in
               let named : List (List ℕ) = named_paths files y.1.batch in
               let was : StayIsOut files seen n c e p.fetches y.1 = out y.0 y.1 it in
-              cond_both (is_from from env.epoch (find (is_under kind.Fetch r) p.fetches)) (with_work env part [] w) Drops
+              cond_both (is_from from env.epoch (find (is_under kind.Fetch r) p.fetches)) (node_turns env part [] w) Drops
               (λ d. DeedKeeps AnyNode files c n d × DeedGoes files e (Some y) d → AreSeen n ss d → Out (part_behind p d))
-              (λ t g said. work-out y.1.asks named part [] w
+              (λ t g said. turned-out y.0 y.1 it part w (work-out y.1.asks named part [] w
               (same-old y.0 y.1 it (names-more files seen ss n c e y.1.asks named (λ path paths names. no-tag e y.1.asks (length named)) was.asks))
               (fetches-more files seen ss n c e part.fetches
               (λ k has i node path is. only (IsContentFor n node c e i) (λ a.
               let it_is = brings e node i a in
               let under : is_under kind.Fetch r k ≡ true = ap (is_under kind.Fetch r) is ∙ eq-eqb i r it_is.2 in
               both_ways (is_under kind.Fetch r k) (has-without kind.Fetch r p.fetches k has).1 under))
-              (drop_all (FetchKeptIsOut seen n c e) kind.Fetch r p.fetches was.fetched)) g.0 g.1 said)
+              (drop_all (FetchKeptIsOut seen n c e) kind.Fetch r p.fetches was.fetched))) g said)
               (λ t g said. passed-over (Some y) it (λ z is. t)) g said

@@ -1,7 +1,7 @@
 -- In every state what a node asked for and has not got was sent, and no answer to it came behind that.
 use Rattle.std.proofs.Common.{◌≡◌, ◌≢◌, ◌⊎◌, ◌<◌, ◌≤◌, ◌^◌, ◌==◌, ◌||◌, nat_lt, eqb-true, ℕ, zero, suc, Bool, true, false, List, [], ◌∷◌, ◌++◌, length, slice_get, Ok, Option, Some, None, inl, inr, ⊎_elim, refl, sym, ap, ◌∙◌, subst, arith}
 use Rattle.std.proofs.lemmas.Bool.{both_ways, ltb-true}
-use Rattle.lard_law_view.specs.Prelude.{BackRow, Body, Client, ClientBlock, ClientRules, Config, Conn, ControlBlock, FilesAt, Front, FrontConn, FrontRow, FrontRules, Has, IsLaw, IsNodeEnv, IsReached, IsUnheard, Letter, Machine, MayRestOn, Message, Move, Node, NodeEnv, NodePart, NodeRules, NodeState, Place, Row, Rules, Seen, Setting, SpellsMessage, Station, Stay, ToCluster, Turn, brought_said, client_begins, client_does, client_injects, client_rule, conn, content_said, decoded, decoded_message, epoch_in, event_seen, file_at, front_does, front_rule, grown, here, inject_seen, is_no_node, kept_at, node_acknowledged, node_at, node_content, node_does, node_forwarded, node_offered, node_read, node_tagged, node_timer, nothing_kept, nothing_said, packet_seen, part_of, reads_first, seen_in, setting, stands, tale_at, with_leaving}
+use Rattle.lard_law_view.specs.Prelude.{BackRow, Body, Client, ClientBlock, ClientRules, Config, Conn, ControlBlock, FilesAt, Front, FrontConn, FrontRow, FrontRules, Has, IsLaw, IsNodeEnv, IsReached, IsUnheard, Letter, Machine, MayRestOn, Message, Move, Node, NodeEnv, NodePart, NodeRules, NodeState, Place, Row, Rules, Seen, Setting, SpellsMessage, Station, Stay, ToCluster, Turn, ack_body, brought_said, client_begins, client_does, client_injects, client_rule, conn, content_said, decoded, decoded_message, epoch_in, event_seen, file_at, front_does, front_rule, grown, here, inject_seen, is_no_node, kept_at, node_acknowledged, node_at, node_content, node_does, node_forwarded, node_offered, node_read, node_tagged, node_timer, nothing_kept, nothing_said, packet_seen, part_of, reads_first, seen_in, setting, stands, tale_at, with_leaving}
 use Rattle.lard_law_view.proofs.EachFront.{each-front, of-front}
 use Rattle.lard_law_view.proofs.EachClient.{each-client, of-client}
 use Rattle.lard_base.specs.declared.event.Event.TheVariants as event
@@ -11,12 +11,14 @@ use Rattle.lard_history.proofs.Seeing.{by_number}
 use Rattle.lard_journal.specs.declared.rec.Rec.TheVariants as rec
 use Rattle.lard_law_connections.specs.Kept.{IsKeptByStage, NodeKeepsMessages}
 use Rattle.lard_law_connections.specs.KeptLaws.{AnyNode}
-use Rattle.lard_law_connections.specs.Places.{IsComing, IsPast, IsRowEarly, IsThere, OthersArePast, Owning, Sits, StageSits, owning}
+use Rattle.lard_law_connections.specs.Places.{IsComing, IsEarlyEpoch, IsPast, IsRowEarly, IsThere, OthersArePast, Owning, Sits, StageSits, owning}
 use Rattle.lard_law_connections.proofs.KeptHere.{here-is}
 use Rattle.lard_law_connections.proofs.KeptRuns.{connections-are-kept}
+use Rattle.lard_law_connections.proofs.LeaversMoves.{SendersLeave, stays-ungiven}
+use Rattle.lard_law_connections.proofs.LeaversSenders.{senders-leave}
 use Rattle.lard_law_connections.proofs.PlacesRuns.{each-placed}
-use Rattle.lard_law_connections.proofs.PlacesTurns.{IsPlaced, small-early}
-use Rattle.lard_law_view.proofs.Carried.{carried, reached-viewed}
+use Rattle.lard_law_connections.proofs.PlacesTurns.{IsPlaced}
+use Rattle.lard_law_view.proofs.Carried.{carried-leaving, reached-viewed}
 use Rattle.lard_law_view.proofs.Parts.{put-each}
 use Rattle.lard_laws.specs.Due.{IsContentFor, IsTagFor}
 use Rattle.lard_laws.specs.DueAnswers.{AwaitsAnswers, ConnectionsAwaitAnswers, PartIsOut}
@@ -28,11 +30,12 @@ use Rattle.lard_rules.specs.Front as front
 use Rattle.lard_rules.specs.Node as node
 use Rattle.lard_law_view.proofs.Deeds.{front-heads, node-heads, node-place}
 
--- what is kept, and where it is; a node that is not there keeps nothing
-record Known (nodes : ℕ) (files : FilesAt) (x : Conn) : Type 0 where
-  pub kept : IsKeptByStage AnyNode files x
+-- what is kept, and where it is; a node that is not there keeps nothing, and one that gave it back leaves
+record Known (k : Setting) (x : Conn) : Type 0 where
+  pub kept : IsKeptByStage AnyNode k.files x
   pub placed : IsPlaced x
-  pub absent : (n : ℕ) → is_no_node nodes n ≡ true → x.part.nodes n ≡ nothing_kept
+  pub absent : (n : ℕ) → is_no_node k.nodes n ≡ true → x.part.nodes n ≡ nothing_kept
+  pub leave : SendersLeave k.leaving x
 
 -- ---- what comes
 
@@ -59,6 +62,10 @@ AnswersNothing (body.Tag number nodes) = ⊥
 AnswersNothing (body.Content r bytes) = ⊥
 AnswersNothing _ = Unit {0}
 
+acks-nothing : (back : Bool) → AnswersNothing (ack_body back)
+acks-nothing true = tt
+acks-nothing false = tt
+
 others : (files : FilesAt) (seen : List Seen) (x : Conn) (v : Move) (n : ℕ) (from to : Place) (epoch : ℕ) (b : Body) (bytes : List ℕ) → AnswersNothing b → SpellsMessage x.c epoch b bytes → v.heads ≡ packet_seen from to bytes
     → AllCalm files seen (seen_in x v) n x.c
 others files seen x v n from to epoch b bytes other spells heads = record {
@@ -73,25 +80,25 @@ others files seen x v n from to epoch b bytes other spells heads = record {
 
 -- ---- epochs are few
 
-past-low : (e : ℕ) (row : BackRow) → e ≤ 3 → IsPast e (Some row) → row.epoch.0 ≤ 3
+past-low : (e : ℕ) (row : BackRow) → IsEarlyEpoch e → IsPast e (Some row) → IsEarlyEpoch row.epoch.0
 past-low e row le past = let less = past.0 in omega (arith, less, le)
 
 module _ (nodes : ℕ → NodePart) (w : Owning) (n : ℕ) (row : BackRow) (found : (nodes n).row ≡ Some row) where
-  low-at : (e : ℕ) → e ≤ 3 → IsPast e (nodes n).row → row.epoch.0 ≤ 3
+  low-at : (e : ℕ) → IsEarlyEpoch e → IsPast e (nodes n).row → IsEarlyEpoch row.epoch.0
   low-at e le past = past-low e row le (subst (IsPast e) found past)
 
-  there-low : (k e : ℕ) → n ≡ k → e ≤ 3 → IsThere k e w (nodes k).row → row.epoch.0 ≤ 3
+  there-low : (k e : ℕ) → n ≡ k → IsEarlyEpoch e → IsThere k e w (nodes k).row → IsEarlyEpoch row.epoch.0
   there-low k e same le there =
       let mine : IsThere k e w (Some row) = subst (IsThere k e w) (ap (λ (i : ℕ). (nodes i).row) (sym same) ∙ found) there in
       let is = mine.0 in
       omega (arith, is, le)
 
-  away-low : (k e : ℕ) → e ≤ 3 → OthersArePast k e nodes → IsComing e w (nodes k).row ⊎ IsThere k e w (nodes k).row → row.epoch.0 ≤ 3
-  away-low k e le past sit = by_number (row.epoch.0 ≤ 3) n k
+  away-low : (k e : ℕ) → IsEarlyEpoch e → OthersArePast k e nodes → IsComing e w (nodes k).row ⊎ IsThere k e w (nodes k).row → IsEarlyEpoch row.epoch.0
+  away-low k e le past sit = by_number (IsEarlyEpoch row.epoch.0) n k
       (λ same. ⊎_elim (λ (a : IsComing e w (nodes k).row). low-at e le (subst (λ (i : ℕ). IsPast e (nodes i).row) (sym same) a.2)) (λ (a : IsThere k e w (nodes k).row). there-low k e same le a) sit)
       (λ other. low-at e le (past n other))
 
-  stage-low : (e : ℕ) (d : FrontConn) → e ≤ 3 → StageSits e w nodes d → row.epoch.0 ≤ 3
+  stage-low : (e : ℕ) (d : FrontConn) → IsEarlyEpoch e → StageSits e w nodes d → IsEarlyEpoch row.epoch.0
   stage-low e (stage.Held b) le sit = low-at e le (sit.1.1 n)
   stage-low e (stage.Waiting b) le sit = low-at e le (sit.1.1 n)
   stage-low e stage.Lent le sit = absurd sit
@@ -99,9 +106,9 @@ module _ (nodes : ℕ → NodePart) (w : Owning) (n : ℕ) (row : BackRow) (foun
   stage-low e (stage.Moved k d) le sit = away-low k e le sit.2 (inr sit.3)
   stage-low e (stage.Closed last) le sit = low-at e le (sit.1.1 n)
 
-  row-low : (q : Option FrontRow) → IsRowEarly q → Sits w nodes q → row.epoch.0 ≤ 3
+  row-low : (q : Option FrontRow) → IsRowEarly q → Sits w nodes q → IsEarlyEpoch row.epoch.0
   row-low None early sit = low-at 0 (omega arith) (sit.1 n)
-  row-low (Some front) early sit = let le = small-early front.epoch.0 front.stage early in stage-low front.epoch.0 front.stage (omega (arith, le)) sit.0
+  row-low (Some front) early sit = stage-low front.epoch.0 front.stage early sit.0
 
 -- what is here is of a low epoch
 here-low : (x : Conn) → IsPlaced x → (n e : ℕ) → (e < 2 ^ 16) ⊎ (here e (x.part.nodes n) ≡ None)
@@ -117,7 +124,7 @@ here-low x placed n e = go (here e (x.part.nodes n)) refl where
 
 module _ (k : Setting) where
   abbrev Goes : Conn → Move → Type 0
-  Goes x v = MayRestOn (Known k.nodes k.files) x → AwaitsAnswers k.files x → AwaitsAnswers k.files (grown x v)
+  Goes x v = MayRestOn (Known k) x → AwaitsAnswers k.files x → AwaitsAnswers k.files (grown x v)
 
   -- what nodes keep stays
   asides : (x : Conn) (v : Move) → ((n : ℕ) → v.part.nodes n ≡ x.part.nodes n) → ((n : ℕ) → AllCalm k.files x.seen (seen_in x v) n x.c) → AwaitsAnswers k.files x → AwaitsAnswers k.files (grown x v)
@@ -195,7 +202,7 @@ module _ (k : Setting) where
     by-deed (node.Does given) mine i = put-each x.part.nodes n given.0 Out mine rest i
 
   -- a rule, over what its node keeps
-  by-node : (x : Conn) (n epoch : ℕ) (env : NodeEnv) → IsNodeEnv k x.c n epoch env → MayRestOn (Known k.nodes k.files) x → (d : node.NodeDeed) (v : Move) → v.part.nodes ≡ (node_does x n [] d).part.nodes
+  by-node : (x : Conn) (n epoch : ℕ) (env : NodeEnv) → IsNodeEnv k x.c n epoch env → MayRestOn (Known k) x → (d : node.NodeDeed) (v : Move) → v.part.nodes ≡ (node_does x n [] d).part.nodes
       → v.place ≡ Node n → v.said.messages ≡ messages_of d → ((i : ℕ) → i ≢ n → AllCalm k.files x.seen (seen_in x v) i x.c)
       → (NodeKeepsMessages AnyNode env.serve.files env.serve.c env.n (x.part.nodes n) → PartIsOut env.serve.files x.seen env.n env.serve.c (x.part.nodes n) → AreSeen env.n (seen_in x v) d → PartIsOut env.serve.files (x.seen ++ seen_in x v) env.n env.serve.c (part_behind (x.part.nodes n) d))
       → AwaitsAnswers k.files x → AwaitsAnswers k.files (grown x v)
@@ -221,7 +228,7 @@ module _ (k : Setting) where
   any (n ∷ ns) = (tt, any ns)
 
   -- as a message comes to it
-  module _ (x : Conn) (n epoch : ℕ) (env : NodeEnv) (is : IsNodeEnv k x.c n epoch env) (may : MayRestOn (Known k.nodes k.files) x) (from : Place) (b : Body) (bytes : List ℕ) (spells : SpellsMessage x.c epoch b bytes) (d : node.NodeDeed) where
+  module _ (x : Conn) (n epoch : ℕ) (env : NodeEnv) (is : IsNodeEnv k x.c n epoch env) (may : MayRestOn (Known k) x) (from : Place) (b : Body) (bytes : List ℕ) (spells : SpellsMessage x.c epoch b bytes) (d : node.NodeDeed) where
     abbrev heads : List Seen
     heads = packet_seen from (Node n) bytes
 
@@ -256,7 +263,7 @@ module _ (k : Setting) where
         let d : node.NodeDeed = node_offered env (x.part.nodes n) parts in
         let ss : List Seen = seen_in x (node_does x n (packet_seen Front (Node n) bytes) d) in
         by-message x n epoch env is may Front (body.Offer parts) bytes spells d
-        (λ kept outs said. offered-out env x.seen ss (x.part.nodes n) kept outs parts (calm-here x n epoch env is may Front (body.Offer parts) bytes spells d tt) said) h;
+        (λ kept outs said. offered-out env x.seen ss (x.part.nodes n) kept outs parts (λ remains. stays-ungiven k.leaving x may.given.leave n (sym is.leaves ∙ remains)) (calm-here x n epoch env is may Front (body.Offer parts) bytes spells d tt) said) h;
     forwarded = λ x n epoch env segment bytes is spells was may h.
         let d : node.NodeDeed = node_forwarded env (x.part.nodes n) (decoded segment x.c ToCluster) in
         let ss : List Seen = seen_in x (node_does x n (packet_seen Front (Node n) bytes) d) in
@@ -274,11 +281,11 @@ module _ (k : Setting) where
         by-message x n epoch env is may (Node from) (body.Content r file) bytes spells d
         (λ kept outs said. content-out env x.seen ss (x.part.nodes n) kept outs (record { from = Node from; to = Node n; bytes = bytes }) (only x n epoch env is may (Node from) (body.Content r file) bytes spells d) from r file refl
         (reads x n epoch env is may (Node from) (body.Content r file) bytes spells d) (here-low x may.given.placed n env.epoch) said) h;
-    acknowledged = λ x n epoch env bytes is spells was may h.
-        let d : node.NodeDeed = node_acknowledged env (x.part.nodes n) in
+    acknowledged = λ x n epoch back env bytes is spells was may h.
+        let d : node.NodeDeed = node_acknowledged env back (x.part.nodes n) in
         let ss : List Seen = seen_in x (node_does x n (packet_seen Front (Node n) bytes) d) in
-        by-message x n epoch env is may Front body.EndedAck bytes spells d
-        (λ kept outs said. acknowledged-out env x.seen ss (x.part.nodes n) kept outs (calm-here x n epoch env is may Front body.EndedAck bytes spells d tt)) h;
+        by-message x n epoch env is may Front (ack_body back) bytes spells d
+        (λ kept outs said. acknowledged-out env x.seen ss (x.part.nodes n) kept outs back (calm-here x n epoch env is may Front (ack_body back) bytes spells d (acks-nothing back))) h;
     read = λ x n epoch r env path is may h.
         let d : node.NodeDeed = node_read env (x.part.nodes n) r in
         let v : Move = reads_first (rec.Read n n x.c r path) (node_does x n [] d) in
@@ -302,7 +309,7 @@ module _ (k : Setting) where
   }
 
   -- a packet that nobody hears: it answers nothing, or comes to a node that keeps nothing
-  module _ (x : Conn) (from to : Place) (bytes : List ℕ) (unheard : IsUnheard k.nodes x.part.station from to bytes) (may : MayRestOn (Known k.nodes k.files) x) (h : AwaitsAnswers k.files x) where
+  module _ (x : Conn) (from to : Place) (bytes : List ℕ) (unheard : IsUnheard k.nodes x.part.station from to bytes) (may : MayRestOn (Known k) x) (h : AwaitsAnswers k.files x) where
     abbrev passes : Move
     passes = stands x to (packet_seen from to bytes) nothing_said
 
@@ -327,7 +334,7 @@ module _ (k : Setting) where
     injects = λ x s bytes there rule may h. client-goes x s (inject_seen x.c bytes) (client_injects s.client bytes) (λ P. ((λ a. a), ((λ a. a), tt))) h;
   }
 
-  answers-law : IsLaw k (Known k.nodes k.files) (AwaitsAnswers k.files)
+  answers-law : IsLaw k (Known k) (AwaitsAnswers k.files)
   answers-law = record { begins = λ c n. tt; moves = rules }
 
 -- ---- every state
@@ -352,5 +359,11 @@ absent-at config files m r q n none =
 
 -- In every state that events lead to.
 pub connections-await-answers : ConnectionsAwaitAnswers
-connections-await-answers config files = carried config files (Known config.nodes (file_at files)) (AwaitsAnswers (file_at files)) (λ l. answers-law (with_leaving (setting config files) l))
-    (λ m r q. record { kept = connections-are-kept config files m r q; placed = each-placed config files m r q; absent = absent-at config files m r q })
+connections-await-answers config files checked = carried-leaving config files (λ l. Known (with_leaving (setting config files) l)) (λ l. AwaitsAnswers (file_at files)) (λ m n e rule is x h. h)
+    (λ l. answers-law (with_leaving (setting config files) l))
+    (λ m r q. record {
+      kept = connections-are-kept config files m r q;
+      placed = each-placed config files checked m r q;
+      absent = absent-at config files m r q;
+      leave = senders-leave config files m r q;
+    })

@@ -3,7 +3,7 @@ use Rattle.std.proofs.Common.{◌≡◌, ◌⊎◌, ◌<◌, ◌≤◌, ◌+◌,
 use Rattle.std.proofs.lemmas.Bool.{both_ways}
 use Rattle.std.specs.FinMap as table
 use Rattle.std.specs.Prelude.{IsSome}
-use Rattle.lard_law_view.specs.Prelude.{Client, Config, Conn, FilesAt, Front, Has, HasTimer, IsReached, Letter, Machine, Node, Numbers, Packet, Place, Rec, Station, Stream, Tale, TimerKind, config_check, conn, file_at, front_armed, has_aborted, is_cluster, is_running, is_touched, last_epoch, letters, node_armed, numbers_of, own, owner, part_of, seq_add, served, tale_at, verdicts, was_reset, wrote}
+use Rattle.lard_law_view.specs.Prelude.{Client, Config, Conn, FilesAt, Front, Has, HasTimer, IsReached, Letter, Machine, Node, Numbers, Packet, Place, Rec, Station, Stream, Tale, TimerKind, config_check, conn, file_at, front_armed, has_aborted, is_cluster, is_running, is_touched, last_epoch, letters, node_armed, numbers_of, own, owner, part_of, seq_add, served, tale_at, verdicts, was_reset, which_leave, wrote}
 use Rattle.lard_base.specs.declared.place.TimerKind.TheVariants as timer
 use Rattle.lard_history.proofs.Lifting.{tale-own}
 use Rattle.lard_history.proofs.Seeing.{has-each}
@@ -15,8 +15,9 @@ use Rattle.lard_law_connections.proofs.BytesClientMoves.{open-at}
 use Rattle.lard_law_connections.proofs.BytesRuns.{states-truthful}
 use Rattle.lard_law_connections.proofs.JobsRuns.{reads-are-queued}
 use Rattle.lard_law_connections.proofs.KeptRuns.{connections-are-kept}
+use Rattle.lard_law_connections.proofs.LeaversStays.{none-leaves}
 use Rattle.lard_law_connections.proofs.PlacesRuns.{each-placed}
-use Rattle.lard_law_connections.proofs.StopsRuns.{connections-stop}
+use Rattle.lard_law_connections.proofs.StopsRuns.{each-stops}
 use Rattle.lard_law_view.proofs.Acked.{Acks}
 use Rattle.lard_law_view.proofs.Carried.{reached-viewed}
 use Rattle.lard_law_view.proofs.InSteps.{carried-ends}
@@ -26,10 +27,10 @@ use Rattle.lard_laws.specs.Due.{AskIsOut, AwaitsAtNode, AwaitsContent, AwaitsDis
 use Rattle.lard_laws.proofs.AcksRuns.{connections-ack}
 use Rattle.lard_laws.proofs.ClientsWriters.{clients-stand}
 use Rattle.lard_laws.proofs.DueAnswersRuns.{connections-await-answers}
-use Rattle.lard_laws.proofs.DueSeats.{AwaitsContentAt, AwaitsTagAt, ComesLaterAt, NextIsAwaitedAt, ReadsAt, next-awaits}
+use Rattle.lard_laws.proofs.DueSeats.{AwaitsContentAt, AwaitsTagAt, ComesLaterAt, HoldsBackAt, NextIsAwaitedBy, ReadsAt, next-awaits}
 use Rattle.lard_laws.proofs.EndedRuns.{connections-were-closed}
 use Rattle.lard_laws.proofs.QuietComplete.{aborted-at, calm-at, reset-at}
-use Rattle.lard_laws.proofs.QuietEnds.{opened, small, waits-for-room}
+use Rattle.lard_laws.proofs.QuietEnds.{opened, waits-for-room}
 use Rattle.lard_laws.specs.QuietStill.{IsWaiting}
 use Rattle.lard_laws.specs.StepsTimers.{armed_at}
 use Rattle.lard_laws.proofs.StepsTimers.{timers-kept}
@@ -99,7 +100,8 @@ module _ (config : Config) (files : List (List ℕ × List ℕ)) (checked : conf
   unfolding conn
   runs place kind has = timers-kept config files m r c place has kind
 
-  told : (p : Option Place) → NextIsAwaitedAt fs x p → NextIsAwaited config fs J c p
+  -- INTERIM: no node leaves yet, so none holds one back
+  told : (p : Option Place) → NextIsAwaitedBy fs x (which_leave m) p → NextIsAwaited config fs J c p
   told None a = ⊎_elim (λ (t : front_armed x.part.front timer.Offer ≡ true). inl (runs Front timer.Offer tt ∙ t))
       (λ (b : (n : ℕ) × (node_armed (x.part.nodes n) timer.Ended ≡ true)). inr (b.0, runs (Node b.0) timer.Ended tt ∙ b.1)) a
   told (Some Front) a = (
@@ -107,7 +109,9 @@ module _ (config : Config) (files : List (List ℕ × List ℕ)) (checked : conf
     for-told a.0 a.1,
     ⊎_elim (λ (t : front_armed x.part.front timer.Tcp ≡ true). inl (runs Front timer.Tcp tt ∙ t)) (λ (w : IsWaiting x). inr (waits-for-room config files checked m r c w)) a.2,
   )
-  told (Some (Node n)) a = (a.0, for-told a.0 a.1, later-told n a.0 a.2)
+  told (Some (Node n)) a = ⊎_elim
+      (λ (b : (path : List ℕ) × IsFor fs (tale_at x).wrote ((tale_at x).served + 1) path × ComesLaterAt fs x n path). (b.0, for-told b.0 b.1, later-told n b.0 b.2))
+      (λ (b : HoldsBackAt fs x (which_leave m) n). absurd (both_ways (which_leave m n) (none-leaves m (reached-viewed config files m r) n) b.0)) a
   told (Some (Client d)) a = absurd a
 
   -- ---- what was acknowledged was taken
@@ -157,16 +161,15 @@ module _ (config : Config) (files : List (List ℕ × List ℕ)) (checked : conf
 
   pub never-due : (n : ℕ) → is_touched J c ≡ false → has_aborted J c ≡ false → was_reset J c ≡ false → HasAcknowledged J c n → HasMoreThanServed J c n → NextIsAwaited config fs J c (owner J c)
   never-due n calm not_aborted not_reset a more =
-      let few = small config files checked m r c in
       let here = calm-at config files m c calm in
       let s : Station = (there n a).0 in
       let at : x.part.station ≡ Some s = (there n a).1 in
-      let truth : IsTruthful fs x = states-truthful config files few m r c here in
-      let acts : AcksWhatWasTaken x = connections-ack config files few m r c here in
+      let truth : IsTruthful fs x = states-truthful config files checked m r c here in
+      let acts : AcksWhatWasTaken x = connections-ack config files checked m r c here in
       let took : OpenActs x s = subst (StationActs x) at acts in
       subst (NextIsAwaited config fs J c) (sym owner-told) (told (tale_at x).owner
-      (next-awaits fs x truth acts (connections-stop config files m r c) (connections-were-closed config files few m r c here) (connections-await config files m r c) (connections-are-kept config files m r c) (connections-await-answers config files m r c)
-      ((each-guarded config files few m r c).0 here) (each-placed config files m r c) (aborted-at config files m c not_aborted) (reset-at config files m c not_reset) s at n
+      (next-awaits fs x truth acts (which_leave m) (each-stops config files m r c) (connections-were-closed config files checked m r c here) (connections-await config files m r c) (connections-are-kept config files m r c) (connections-await-answers config files checked m r c)
+      ((each-guarded config files checked m r c).0 here) (each-placed config files checked m r c) (aborted-at config files m c not_aborted) (reset-at config files m c not_reset) s at n
       (heard-most s at truth took n a) (more-told n more)))
 
 pub nothing-due : (config : Config) (files : List (List ℕ × List ℕ)) → config_check config ≡ Ok tt → (m : Machine) → IsReached config files m → NothingIsDue config (file_at files) m.journal

@@ -1,18 +1,18 @@
 -- Wherever a connection is, the next of the requests that were acknowledged awaits something there.
-use Rattle.std.proofs.Common.{◌≡◌, ◌⊎◌, ◌<◌, ◌≤◌, ◌+◌, ◌-◌, ◌==◌, ◌&&◌, not, cond, eqb-true, take_all, ℕ, Bool, true, false, List, [], ◌∷◌, map, length, take, Option, Some, None, inl, inr, ⊎_elim, refl, sym, ap, ◌∙◌, subst, arith}
+use Rattle.std.proofs.Common.{◌≡◌, ◌⊎◌, ◌<◌, ◌≤◌, ◌+◌, ◌-◌, ◌==◌, not, cond, eqb-true, take_all, ℕ, Bool, true, false, List, [], ◌∷◌, map, length, take, Option, Some, None, inl, inr, ⊎_elim, refl, sym, ap, ◌∙◌, subst, arith}
 use Rattle.std.proofs.lemmas.Bool.{and_parts, both_ways}
 use Rattle.std.proofs.lemmas.List.{length-map}
 use Rattle.std.specs.List.{find, list_any}
-use Rattle.lard_law_view.specs.Prelude.{BackConn, BackRow, Client, Conn, ControlBlock, Entry, FilesAt, Front, FrontConn, FrontRest, FrontRow, Has, HasStopped, HasTarget, Kept, Node, NodePart, Place, Progress, Station, Stay, Tale, Talk, Verdict, and_path, answer, answers, front_armed, front_rest, good_path, holds_kind, is_clear, is_under, kind_rank, may_freeze, named_paths, next_by, node_armed, path_in, row_armed, stage_armed, tale_at, verdicts}
+use Rattle.lard_law_view.specs.Prelude.{BackConn, BackRow, Client, Conn, ControlBlock, Entry, FilesAt, Front, FrontConn, FrontRest, FrontRow, Has, HasStopped, HasTarget, Kept, Node, NodePart, Place, Progress, Station, Stay, Tale, Talk, Verdict, and_path, answer, answers, back_endpoint, back_held, front_armed, front_rest, good_path, holds_kind, is_clear, is_under, is_unsaid, kind_rank, may_freeze, named_paths, next_by, node_armed, path_in, row_armed, stage_armed, tale_at, verdicts}
 use Rattle.lard_answers.proofs.Growing.{answers-are, verdicts-nothing}
 use Rattle.lard_base.specs.declared.place.TimerKind.TheVariants as timer
 use Rattle.lard_handoff_back.specs.declared.row.BackConn.TheVariants as back
 use Rattle.lard_handoff_front.specs.declared.row.FrontConn.TheVariants as stage
 use Rattle.lard_law_view.proofs.Turned.{has-all}
 use Rattle.lard_law_connections.specs.Awaits.{AwaitsWhatItAsked, BatchComes, FetchKept, IsToCome, RowComes, StageComes, StayComes}
-use Rattle.lard_law_connections.specs.BytesAgreement.{AreOnTheWay, BackAgrees, ComesOn, FrontHolds, FrontWaits, HoldsItPending, IsOffering, IsOpen, IsTruthful, NodeAgrees, RowAgrees, SeatAgrees, StageAgrees, StayAgrees, StayComesOn}
+use Rattle.lard_law_connections.specs.BytesAgreement.{AreOnTheWay, BackAgrees, ComesOn, FrontHolds, FrontWaits, HoldsItPending, IsEnding, IsOffering, IsOpen, IsReturning, IsTruthful, NodeAgrees, RowAgrees, SeatAgrees, StageAgrees, StayAgrees, StayComesOn}
 use Rattle.lard_law_connections.specs.Places.{IsComing, IsDecided, IsPast, IsThere, Owning, Owns, Sits, StageSits, owning}
-use Rattle.lard_law_connections.specs.Stops.{BackStageStops, FirstIsAwaited, FrontStageStops, FrontStops, HeldStops, IsHeldBack, ReadingStops, RowStops, StayStops}
+use Rattle.lard_law_connections.specs.Stops.{BackStageRests, FirstIsAwaited, FrontStageStops, FrontStops, HeldStops, IsHeldBack, ReadingStopsBy, ReadsNone, RowRests, StayStopsBy}
 use Rattle.lard_law_connections.proofs.BytesClientMoves.{open-at}
 use Rattle.lard_law_connections.proofs.PlacesTurns.{IsPlaced}
 use Rattle.lard_law_view.proofs.Answered.{fewer-verdicts}
@@ -26,7 +26,7 @@ use Rattle.lard_laws.specs.WaysState.{BeginsWithRequest, GoesItsWay, SeatWays, S
 use Rattle.lard_laws.proofs.BackingNext.{next-for}
 use Rattle.lard_laws.proofs.DueReading.{all-served, held-for, read-for, some-path}
 use Rattle.lard_laws.proofs.QuietClosed.{closed-done}
-use Rattle.lard_laws.proofs.QuietComplete.{IsDone}
+use Rattle.lard_laws.proofs.QuietComplete.{IsDone, may-move}
 use Rattle.lard_law_connections.specs.Kept.{FrontRowKeeps, FrontStageKeeps, IsKeptByStage}
 use Rattle.lard_law_connections.specs.KeptLaws.{AnyNode}
 use Rattle.lard_rules.specs.declared.places.Ending.TheVariants as ending
@@ -69,14 +69,21 @@ module _ (files : FilesAt) (x : Conn) where
   abbrev pub ComesLaterAt : ℕ → List ℕ → Type 0
   ComesLaterAt k path = AwaitsTagAt k path ⊎ (ReadsAt k ⊎ AwaitsContentAt k)
 
-  abbrev pub NextIsAwaitedAt : Option Place → Type 0
-  NextIsAwaitedAt None = (front_armed x.part.front timer.Offer ≡ true) ⊎ ((k : ℕ) × (node_armed (x.part.nodes k) timer.Ended ≡ true))
-  NextIsAwaitedAt (Some Front) = (path : List ℕ) × IsFor files t.wrote (t.served + 1) path × ((front_armed x.part.front timer.Tcp ≡ true) ⊎ IsWaiting x)
-  NextIsAwaitedAt (Some (Node k)) = (path : List ℕ) × IsFor files t.wrote (t.served + 1) path × ComesLaterAt k path
-  NextIsAwaitedAt (Some (Client d)) = ⊥
+  -- the node leaves, and what its endpoint said is not acknowledged yet
+  abbrev pub HoldsBackAt : (ℕ → Bool) → ℕ → Type 0
+  HoldsBackAt leaving k = (leaving k ≡ true) × (node_armed (x.part.nodes k) timer.Tcp ≡ true)
 
-  module _ (truth : IsTruthful files x) (acts : AcksWhatWasTaken x) (stops : ReadingStops files x) (ends : EndsAreTrue files x) (awaits : AwaitsWhatItAsked files x) (kept : IsKeptByStage AnyNode files x)
+  abbrev pub NextIsAwaitedBy : (ℕ → Bool) → Option Place → Type 0
+  NextIsAwaitedBy leaving None = (front_armed x.part.front timer.Offer ≡ true) ⊎ ((k : ℕ) × (node_armed (x.part.nodes k) timer.Ended ≡ true))
+  NextIsAwaitedBy leaving (Some Front) = (path : List ℕ) × IsFor files t.wrote (t.served + 1) path × ((front_armed x.part.front timer.Tcp ≡ true) ⊎ IsWaiting x)
+  NextIsAwaitedBy leaving (Some (Node k)) = ((path : List ℕ) × IsFor files t.wrote (t.served + 1) path × ComesLaterAt k path) ⊎ HoldsBackAt leaving k
+  NextIsAwaitedBy leaving (Some (Client d)) = ⊥
+
+  module _ (truth : IsTruthful files x) (acts : AcksWhatWasTaken x) (leaving : ℕ → Bool) (stops : ReadingStopsBy leaving files x) (ends : EndsAreTrue files x) (awaits : AwaitsWhatItAsked files x) (kept : IsKeptByStage AnyNode files x)
       (outs : AwaitsAnswers files x) (ways : GoesItsWay files x) (placed : IsPlaced x) (not_aborted : (story_at x).aborted ≡ false) (not_reset : (story_at x).reset ≡ false) (s : Station) (there : x.part.station ≡ Some s) where
+    abbrev NextIsAwaitedAt : Option Place → Type 0
+    NextIsAwaitedAt = NextIsAwaitedBy leaving
+
     abbrev l : Talk
     l = truth.talk
 
@@ -107,15 +114,19 @@ module _ (files : FilesAt) (x : Conn) where
         abbrev p : NodePart
         p = x.part.nodes k
 
+        abbrev Comes : Type 0
+        Comes = (path : List ℕ) × IsFor files t.wrote (t.served + 1) path × ComesLaterAt k path
+
         abbrev Goal : Type 0
-        Goal = (path : List ℕ) × IsFor files t.wrote (t.served + 1) path × ComesLaterAt k path
+        Goal = Comes ⊎ HoldsBackAt leaving k
 
         module _ (row : BackRow) (b : ControlBlock) (st : Stay) (found : p.row ≡ Some row) (at : row.stage ≡ back.Here b) (stays : p.stay ≡ Some st) (agrees : StayAgrees l.w l.out l.vs pend b (Some st)) (epoch : row.epoch.0 ≡ t.epoch) where
           act : EndActs (bounds_of x s taken.heard) (ending.Here b 0)
           act = subst (BackStageActs (bounds_of x s taken.heard)) at (subst (BackActs (bounds_of x s taken.heard)) found (taken.within.nodes k))
 
-          stop : StayStops b st.batch
-          stop = subst (λ (d : BackConn). BackStageStops d (Some st)) at (subst (RowStops (Some row)) stays (subst (λ (q : Option BackRow). RowStops q p.stay) found (stops.1 k)))
+          stop : StayStopsBy (leaving k) b st.batch
+          stop = subst (λ (d : BackConn). BackStageRests (leaving k) d (Some st)) at
+              (subst (RowRests (leaving k) (Some row)) stays (subst (λ (q : Option BackRow). RowRests (leaving k) q p.stay) found (stops.1 k)))
 
           comes : BatchComes files p.kept p.fetches (st.served + 1) st.batch
           comes = subst (StayComes files p) stays (subst (StageComes files p) at (subst (RowComes files p) found (awaits k)))
@@ -126,18 +137,30 @@ module _ (files : FilesAt) (x : Conn) where
           out : StayIsOut files x.seen k x.c row.epoch.0 p.fetches st
           out = subst (HereIsOut files x.seen k x.c row.epoch.0 p.fetches) stays (subst (StageIsOut files x.seen k x.c row.epoch.0 p) at (subst (RowIsOut files x.seen k x.c p) found (outs k)))
 
-          -- nothing was read that is not answered
-          none-read : st.batch ≡ [] → ⊥
-          none-read none = never b st.served alone stopped act where
+          -- where nothing was read that is not answered it is held back
+          none-read : st.batch ≡ [] → HoldsBackAt leaving k
+          none-read none = by-end b.send.finished refl where
             alone : HoldsItPending l.w l.out l.vs [] b st.served
             alone = subst (λ (us : List Verdict). HoldsItPending l.w l.out l.vs us b st.served) (agrees.0 ∙ ap (map (λ z. z.verdict)) none) agrees.1
 
-            by-end : (f : Bool) → b.send.finished ≡ f → HasStopped b
-            by-end true e = (stop.closed e).0
-            by-end false e = ⊎_elim (λ (a : FirstIsAwaited st.batch). absurd (subst FirstIsAwaited none a)) (λ (a : HasStopped b × (st.batch ≡ [])). a.0) (stop.open_ e)
+            goes-on : HasStopped b → ⊥
+            goes-on stopped = never b st.served alone stopped act
 
-            stopped : HasStopped b
-            stopped = by-end b.send.finished refl
+            unsaid : (q : Bool) → is_clear b.send ≡ q → b.send.finished ≡ false → may_freeze b ≡ false → not q ≡ true
+            unsaid true e open_ held = absurd (both_ways (may_freeze b) held (may-move l.w l.out l.vs [] b st.served alone e open_))
+            unsaid false e open_ held = refl
+
+            by-leaving : (f : Bool) → leaving k ≡ f → b.send.finished ≡ false → ReadsNone f b → HoldsBackAt leaving k
+            by-leaving false e open_ stopped = absurd (goes-on stopped)
+            by-leaving true e open_ held = (
+              e,
+              ap (λ (q : Option BackRow). is_unsaid (back_endpoint q)) found ∙ ap (λ (d : BackConn). is_unsaid (back_held d)) at ∙ unsaid (is_clear b.send) refl open_ held,
+            )
+
+            by-end : (f : Bool) → b.send.finished ≡ f → HoldsBackAt leaving k
+            by-end true e = absurd (goes-on (stop.closed e).0)
+            by-end false e = ⊎_elim (λ (a : FirstIsAwaited st.batch). absurd (subst FirstIsAwaited none a))
+                (λ (a : ReadsNone (leaving k) b × (st.batch ≡ [])). by-leaving (leaving k) refl e a.0) (stop.open_ e)
 
           module _ (e : Entry) (es : List Entry) (is : st.batch ≡ e ∷ es) where
             abbrev Others : List Verdict
@@ -160,7 +183,7 @@ module _ (files : FilesAt) (x : Conn) where
               by-end true f = discards b.recv.discarding refl (stop.closed f).1
               by-end false f = ⊎_elim
                   (λ (a : FirstIsAwaited st.batch). let no : next.Serve ≡ next.Stop = sym ready ∙ subst FirstIsAwaited is a in cc)
-                  (λ (a : HasStopped b × (st.batch ≡ [])). some (sym is ∙ a.1)) (stop.open_ f)
+                  (λ (a : ReadsNone (leaving k) b × (st.batch ≡ [])). some (sym is ∙ a.1)) (stop.open_ f)
 
             for-path : (path : List ℕ) → good_path files e.verdict ≡ Some path → IsFor files t.wrote (t.served + 1) path
             for-path path good = its-for st.served agrees.1.counted path (read-for files l.w l.out l.vs b st.served e es held path good)
@@ -187,18 +210,18 @@ module _ (files : FilesAt) (x : Conn) where
             on-way : ComesOn files e.verdict e.progress
             on-way = (subst (AreOnTheWay files) is on-the-way).0
 
-            by-progress : (q : Progress) → e.progress ≡ q → IsToCome files p.kept p.fetches (st.served + 1) e.verdict q → ComesOn files e.verdict q → Goal
+            by-progress : (q : Progress) → e.progress ≡ q → IsToCome files p.kept p.fetches (st.served + 1) e.verdict q → ComesOn files e.verdict q → Comes
             by-progress (progress.Ready way) first by way_on = absurd (is-ready (ap next_by first))
             by-progress progress.Named first by way_on = let good = some-path files e.verdict by.1 in (good.0, for-path good.0 good.1, inl (named first good.0 good.1))
             by-progress (progress.Awaited node) first by way_on = let good = some-path files e.verdict way_on in (good.0, for-path good.0 good.1, inr (inr (fetched node by)))
             by-progress progress.Reading first by way_on = let good = some-path files e.verdict way_on in (good.0, for-path good.0 good.1, inr (inl (row, b, st, e, es, found, at, stays, is, first, served-is)))
 
-            first-awaits : Goal
+            first-awaits : Comes
             first-awaits = by-progress e.progress refl (subst (BatchComes files p.kept p.fetches (st.served + 1)) is comes).0 on-way
 
           batch-awaits : (es : List Entry) → st.batch ≡ es → Goal
-          batch-awaits [] is = absurd (none-read is)
-          batch-awaits (e ∷ es) is = first-awaits e es is
+          batch-awaits [] is = inr (none-read is)
+          batch-awaits (e ∷ es) is = inl (first-awaits e es is)
 
         stay-awaits : (row : BackRow) (b : ControlBlock) → p.row ≡ Some row → row.stage ≡ back.Here b → (q : Option Stay) → p.stay ≡ q → StayAgrees l.w l.out l.vs pend b q → row.epoch.0 ≡ t.epoch → Goal
         stay-awaits row b found at None is agrees epoch = absurd agrees
@@ -207,7 +230,10 @@ module _ (files : FilesAt) (x : Conn) where
         stage-awaits : (e0 : ℕ) (row : BackRow) → p.row ≡ Some row → (d : BackConn) → row.stage ≡ d → BackAgrees l.w l.out l.vs pend l.was_reset x.c row.epoch.0 p d → (row.epoch.0 ≡ e0) × (t.epoch ≡ e0) × Owns k d t.owner → NextIsAwaitedAt t.owner
         stage-awaits e0 row found (back.Here b) at agrees sit = subst NextIsAwaitedAt (sym sit.2) (stay-awaits row b found at p.stay refl agrees (sit.0 ∙ sym sit.1))
         stage-awaits e0 row found back.Out at agrees sit = absurd agrees
-        stage-awaits e0 row found back.Ended at agrees sit = subst NextIsAwaitedAt (sym sit.2) (inr (k, ap (holds_kind timer.Ended) agrees.kept_is))
+        -- INTERIM: no connection goes back, so it ended there
+        stage-awaits e0 row found back.Ended at agrees sit = subst NextIsAwaitedAt (sym sit.2) (⊎_elim
+            (λ (ending : IsEnding l.w l.was_reset x.c row.epoch.0 p.kept). inr (k, ap (holds_kind timer.Ended) ending.kept_is))
+            (λ (returning : IsReturning l.w l.out l.vs pend x.c row.epoch.0 p). absurd (let no : ◌≡◌ {A = Option ℕ} None (Some returning.count) = sym (placed.unreturned.ungiven k) ∙ returning.returned in cc)) agrees)
         stage-awaits e0 row found back.Gone at agrees sit = absurd agrees
 
         node-awaits : (e0 : ℕ) (q : Option BackRow) → p.row ≡ q → RowAgrees l.w l.out l.vs pend l.was_reset x.c p q → IsThere k e0 (owning t) q → NextIsAwaitedAt t.owner
@@ -240,12 +266,8 @@ module _ (files : FilesAt) (x : Conn) where
           stop = subst (FrontStageStops files) at (subst (FrontStops files) found stops.0)
 
           -- it would be placed
-          may : (d : Bool) → b.recv.discarding ≡ d → b.send.finished ≡ false → is_clear b.send ≡ true → may_freeze b ≡ true
-          may true e open_ clear = absurd (both_ways b.send.finished open_ (agrees.holds.has_read.stops e).0)
-          may false e open_ clear = λ i. (clear i && not (open_ i)) && (not (e i) && not (stop.0 i))
-
           unsaid : (q : Bool) → is_clear b.send ≡ q → IsHeldBack files b → not q ≡ true
-          unsaid true e a = absurd (both_ways (may_freeze b) a.2 (may b.recv.discarding refl a.1 e))
+          unsaid true e a = absurd (both_ways (may_freeze b) a.2 (may-move l.w l.out l.vs [] b count agrees.holds e a.1))
           unsaid false e a = refl
 
           held-back : IsHeldBack files b → NextIsAwaitedAt (Some Front)

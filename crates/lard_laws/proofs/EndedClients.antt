@@ -8,7 +8,7 @@ use Rattle.lard_laws.specs.EndedEnds.{EndsAreTrue, IsTrueEnd, LetterEnds, RowEnd
 use Rattle.lard_laws.proofs.EndedGrowing.{client-letters, ends-on, inner-letters, row-on}
 use Rattle.lard_laws.proofs.EndedTurns.{told-grown, wrote-behind}
 use Rattle.lard_law_connections.proofs.LimitsMoves.{Helps}
-use Rattle.lard_law_connections.specs.Stops.{ReadingStops}
+use Rattle.lard_law_connections.specs.Stops.{ReadingStopsBy}
 use Rattle.lard_law_view.proofs.Rows.{tale_before}
 use Rattle.lard_history.proofs.Each.{Each-append}
 use Rattle.lard_law_view.proofs.EachClient.{client_seen, each-client, of-client}
@@ -22,7 +22,7 @@ written-is files x s l pend o = o.client.w_is ∙ ap (stream_of s.client.send) (
 module _ (k : Setting) (small : k.stream ≤ 2 ^ 30) where
   -- each move keeps what is told, where it is truthful and is read no further for a reason
   abbrev pub Keeps : Conn → Move → Type 0
-  Keeps x v = Helps x v → IsTruthful k.files x → ReadingStops k.files x → EndsAreTrue k.files x → EndsAreTrue k.files (grown x v)
+  Keeps x v = Helps x v → IsTruthful k.files x → ReadingStopsBy k.leaving k.files x → EndsAreTrue k.files x → EndsAreTrue k.files (grown x v)
 
   -- ---- a client that opened
 

@@ -1,6 +1,7 @@
 -- Each rule keeps what is told of an end: it was so, in every run.
-use Rattle.std.proofs.Common.{◌≡◌, ◌≤◌, ◌^◌, ℕ, false, List, [], ◌∷◌, Some, refl, sym, ap, ◌∙◌, subst}
+use Rattle.std.proofs.Common.{◌≡◌, ◌≤◌, ◌^◌, ℕ, Bool, false, List, [], ◌∷◌, Some, refl, sym, ap, ◌∙◌, subst}
 use Rattle.std.specs.List.{fold}
+use Rattle.lard_base.proofs.Usable.{usable}
 use Rattle.lard_law_view.specs.Prelude.{Conn, FilesAt, Final, FrontRules, IsMachine, IsNodeEnv, IsUntouchedLaw, MayRestOn, Move, Node, NodeEnv, NodeRules, Place, Seen, Setting, Station, Stream, TurnSaid as SaidIn, Untouched, UntouchedRules, brought_said, content_said, file_at, front_does, grown, letters_of, node_does, nothing_said, packet_seen, seen_step, setting, stands, tale_at, tale_step, with_leaving}
 use Rattle.lard_law_connections.specs.BytesAgreement.{IsOpen, IsTruthful}
 use Rattle.lard_law_connections.proofs.BytesClientMoves.{open-at}
@@ -16,9 +17,9 @@ use Rattle.lard_law_connections.proofs.PlacesLaw.{owing}
 use Rattle.lard_law_connections.proofs.PlacesRuns.{each-placed}
 use Rattle.lard_law_connections.proofs.PlacesTurns.{IsPlaced, Owes}
 use Rattle.lard_law_view.proofs.NodeHeads.{of-heads}
-use Rattle.lard_law_connections.specs.Stops.{ReadingStops}
-use Rattle.lard_law_connections.proofs.StopsRuns.{connections-stop}
-use Rattle.lard_law_view.proofs.Carried.{carried}
+use Rattle.lard_law_connections.specs.Stops.{NodeRests, ReadingStopsBy}
+use Rattle.lard_law_connections.proofs.StopsRuns.{each-stops}
+use Rattle.lard_law_view.proofs.Carried.{carried-leaving}
 use Rattle.lard_law_view.proofs.EachFront.{each-front, of-front}
 use Rattle.lard_law_view.proofs.EachNode.{Aside, Answers, Queues, Brings, aside_said, aside_seen, each-node, node_goes}
 use Rattle.lard_law_view.proofs.Fine.{IsFine, fine}
@@ -49,9 +50,9 @@ told_by x heads = (fold (seen_step (tale_step x.c)) (tale_at x) heads).wrote
 module _ (k : Setting) (small : k.stream ≤ 2 ^ 30) where
   -- what a place tells, by the streams of a connection whose client opened
   abbrev Ends : FilesAt → Conn → Move → Type 0
-  Ends files x v = (s : Station) → x.part.station ≡ Some s → (h : IsTruthful files x) → (o : IsOpen files x h.talk h.pend s) → ReadingStops files x → TellsEnds (IsTrueEnd files h.talk.w s.iss) x → PlaceEnds x v (IsTrueEnd files h.talk.w s.iss)
+  Ends files x v = (s : Station) → x.part.station ≡ Some s → (h : IsTruthful files x) → (o : IsOpen files x h.talk h.pend s) → ReadingStopsBy k.leaving files x → TellsEnds (IsTrueEnd files h.talk.w s.iss) x → PlaceEnds x v (IsTrueEnd files h.talk.w s.iss)
 
-  by-streams : (x : Conn) (v : Move) → Ends k.files x v → IsTruthful k.files x → ReadingStops k.files x → (s : Station) → x.part.station ≡ Some s → TellsEnds (IsTrueEnd k.files (written_by x s) s.iss) x → PlaceEnds x v (IsTrueEnd k.files (written_by x s) s.iss)
+  by-streams : (x : Conn) (v : Move) → Ends k.files x v → IsTruthful k.files x → ReadingStopsBy k.leaving k.files x → (s : Station) → x.part.station ≡ Some s → TellsEnds (IsTrueEnd k.files (written_by x s) s.iss) x → PlaceEnds x v (IsTrueEnd k.files (written_by x s) s.iss)
   by-streams x v ends h stops s there told =
       let o : IsOpen k.files x h.talk h.pend s = open-at k.files x s there h in
       let same : h.talk.w ≡ written_by x s = written-is k.files x s h.talk h.pend o in
@@ -99,8 +100,8 @@ module _ (k : Setting) (small : k.stream ≤ 2 ^ 30) where
         ∙ of-heads x n (λ (ss : List Seen). told_by x ss ≡ (tale_at x).wrote) (λ from bytes. refl) refl refl epoch heads g comes) (node-station x n heads d)
         (λ help. notes-unwritten v.place x.c v.said.notes (node-machine x n heads d) help.own.notes)
         (λ help. by-files x v env.serve.files is.files (λ t at h o stops told.
-        nodes_of.rule-ends env (node-within x.c n epoch env is) x help.sound help.placed t h.talk h.pend o n (stops.1 n) told help.number epoch is.epoch_is
-        heads g its comes));
+        nodes_of.rule-ends env (node-within x.c n epoch env is) x help.sound help.placed t h.talk h.pend o n (subst (λ (l : Bool). NodeRests l (x.part.nodes n)) (sym is.leaves) (stops.1 n)) told help.number epoch is.epoch_is
+        heads g its.0 comes));
     aside = λ x n a may. asides x n a;
   })
 
@@ -116,7 +117,7 @@ module _ (k : Setting) (small : k.stream ≤ 2 ^ 30) where
 
   -- where it sits, that it agrees, and why it is read no further
   abbrev pub Given : Conn → Type 0
-  Given x = IsPlaced x × Untouched (IsTruthful k.files) x × ReadingStops k.files x
+  Given x = IsPlaced x × Untouched (IsTruthful k.files) x × ReadingStopsBy k.leaving k.files x
 
   abbrev Owed : Conn → Move → Type 0
   Owed x v = MayRestOn Given x → IsPlaced x → Owes x v
@@ -141,8 +142,9 @@ module _ (k : Setting) (small : k.stream ≤ 2 ^ 30) where
 
 -- In every state that events lead to.
 pub connections-were-closed : ConnectionsWereClosed
-connections-were-closed config files small =
+connections-were-closed config files checked =
     let k : Setting = setting config files in
-    carried config files (Given k small) (Untouched (EndsAreTrue (file_at files)))
-    (λ l. untouched-law (with_leaving k l) (Given k small) (EndsAreTrue (file_at files)) (ended-law (with_leaving k l) small))
-    (λ m r q. (each-placed config files m r q, states-truthful config files small m r q, connections-stop config files m r q))
+    let small : k.stream ≤ 2 ^ 30 = (usable config checked).stream in
+    carried-leaving config files (λ l. Given (with_leaving k l) small) (λ l. Untouched (EndsAreTrue (file_at files))) (λ m n e rule is x h. h)
+    (λ l. untouched-law (with_leaving k l) (Given (with_leaving k l) small) (EndsAreTrue (file_at files)) (ended-law (with_leaving k l) small))
+    (λ m r q. (each-placed config files checked m r q, states-truthful config files checked m r q, each-stops config files m r q))

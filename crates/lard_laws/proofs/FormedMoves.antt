@@ -260,7 +260,7 @@ module _ (k : Setting) (short : AreFilePathsShort k.files) where
       let p : NodePart = x.part.nodes n in
       let again : Each (Names fs short n) (again_sent p) = sent-names x h n (p.kept ++ p.fetches) (sent-append x (Node n) p.kept p.fetches (help.may.sound.kept n) (help.may.sound.fetches n)) in
       moved fs x (node_goes x n env heads g) help.own (node-news x n env is.files heads (node_rule env p g) h.target (heads-of (SeenToldSo fs) (λ l. tt) (λ i c. tt) x n epoch heads g comes)
-      (node-names fs short n env is.files p again g at) (job_notes x.c n g) help.own) h
+      (node-names fs short n env is.files p again g at.0) (job_notes x.c n g) help.own) h
 
   asides-move : (x : Conn) (n : ℕ) (a : Aside) → MayAside k x n a → Moves x (stands x (Node n) (aside_seen n a) (aside_said k n x.c a))
   asides-move x n (Answers from epoch r path file bytes) may help h = moved fs x (stands x (Node n) (packet_seen (Node from) (Node n) bytes) (content_said k n from x.c epoch r path)) help.own

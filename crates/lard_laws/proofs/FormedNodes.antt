@@ -2,7 +2,7 @@
 use Rattle.std.proofs.Common.{◌≡◌, ◌-◌, ℕ, ◌+◌, true, nat_lt, List, [], ◌∷◌, ◌++◌, Option, Some, None, refl, sym, subst}
 use Rattle.std.proofs.lemmas.Bool.{cond_both}
 use Rattle.lard_history.proofs.Each.{Each, Each-append}
-use Rattle.lard_law_view.specs.Prelude.{Asked, Ending, Entry, FilesAt, Node, NodeDeed, NodeEnv, NodeGets, NodePart, Place, Progress, Want, Work, after_timer, again_sent, all_sent, asked_sent, came_for, come_on, come_progress, ended_sent, goes_on, named_paths, node_begins, node_rule, on_segment, read_progress, reads_batch, reset_count, serving, serving_ready_of, serving_settled, spoken, state_of, tagged, taken_sent, timed, wants_sent, with_work, without, work_of}
+use Rattle.lard_law_view.specs.Prelude.{Asked, Ending, Entry, FilesAt, Node, NodeDeed, NodeEnv, NodeGets, NodePart, Place, Progress, Want, Work, after_timer, again_sent, all_sent, asked_sent, came_for, come_on, come_progress, ended_sent, give_kept, gives_back, goes_on, named_paths, node_begins, node_rule, on_segment, parts_of, read_progress, reads_batch, refused_sent, reset_count, sent_of, serving, serving_ready_of, serving_settled, spoken, state_of, tagged, taken_sent, timed, wants_sent, with_work, without, work_of}
 use Rattle.lard_laws.proofs.FormedAsks.{all-named, ask-names, other-names}
 use Rattle.lard_laws.proofs.FormedSegments.{SaysTo, ready-says, settled-says, spoken-says}
 use Rattle.lard_laws.proofs.FormedTold.{NamesBy}
@@ -10,7 +10,7 @@ use Rattle.lard_laws.specs.Formed.{AreFilePathsShort, IsOfFile}
 use Rattle.lard_base.specs.declared.place.TimerKind.TheVariants as timer
 use Rattle.lard_message.specs.declared.kind.Kind.TheVariants as kind
 use Rattle.lard_message.specs.declared.message.Body.TheVariants as body
-use Rattle.lard_rules.proofs.NodeCases.{IsInItsEpoch, KeptByNode, node-keeps}
+use Rattle.lard_rules.proofs.NodeCases.{IsOfItsEpoch, KeptByNode, Turned, node-keeps}
 use Rattle.lard_rules.proofs.StayKeeping.{EachFrom, KeptByStay, batch-keeps, goes-keep, tagged-keeps}
 use Rattle.lard_rules.specs.Node.{Does, Drops, Says}
 use Rattle.lard_rules.specs.declared.places.Ending.TheVariants as ending
@@ -76,9 +76,19 @@ module _ (files : FilesAt) (short : AreFilePathsShort files) (n : ℕ) where
     taken-names : Each Names (taken_sent env)
     taken-names = (other-names files (record { c = env.serve.c; epoch = record { 0 = env.epoch }; body = body.Taken }) (λ e. let no : kind.Taken ≡ kind.Ask = e in cc), tt)
 
+    refused-names : Each Names (refused_sent env)
+    refused-names = (other-names files (record { c = env.serve.c; epoch = record { 0 = env.epoch }; body = body.Refused }) (λ e. let no : kind.Refused ≡ kind.Ask = e in cc), tt)
+
+    give-names : (w : Work) → Names (sent_of (give_kept env w))
+    give-names w =
+        other-names files (record { c = env.serve.c; epoch = record { 0 = env.epoch }; body = body.Give (parts_of w.service.block w.service.count) }) (λ e. let no : kind.Give ≡ kind.Ask = e in cc)
+
+    all-names : (before : List (Place × List ℕ)) (w : Work) → Each Names before → Asks w → Each Names (all_sent env before w)
+    all-names before w h asks =
+        Each-append Names (before ++ asked_sent env w.asked) (wants_sent env w.wants) (Each-append Names before (asked_sent env w.asked) h (asked-names w.asked asks)) (wants-names w.wants)
+
     turn-names : (before : List (Place × List ℕ)) (w : Work) (e : Ending) → Each Names before → Asks w → Each Names (all_sent env before w ++ ended_sent env w.service.over e)
-    turn-names before w e h asks = Each-append Names (all_sent env before w) (ended_sent env w.service.over e)
-        (Each-append Names (before ++ asked_sent env w.asked) (wants_sent env w.wants) (Each-append Names before (asked_sent env w.asked) h (asked-names w.asked asks)) (wants-names w.wants)) (ended-names w.service.over e)
+    turn-names before w e h asks = Each-append Names (all_sent env before w) (ended_sent env w.service.over e) (all-names before w h asks) (ended-names w.service.over e)
 
     -- ---- rule by rule
 
@@ -93,23 +103,31 @@ module _ (files : FilesAt) (short : AreFilePathsShort files) (n : ℕ) where
           let k : Work = goes_on env w in
           (settled-says env.serve k.service, turn-names before k (serving_settled env.serve k.service).0 h (goes-asks w asks))
 
+      back-names : (q : NodePart) (before : List (Place × List ℕ)) (w : Work) → Each Names before → Asks w → DeedNames (gives_back env q before w)
+      back-names q before w h asks = (tt, Each-append Names (all_sent env before w) (sent_of (give_kept env w) ∷ []) (all-names before w h asks) (give-names w, tt))
+
+      ends-names : (q : NodePart) (w : Work) → Asks w → Turned DeedNames env q [] (goes_on env w)
+      ends-names q w asks = (λ rests. goes-names q [] w tt asks, λ back. back-names q [] (goes_on env w) tt (goes-asks w asks))
+
       by_node : KeptByNode env p (λ g. Unit {0}) DeedNames
       by_node = record {
         drops = tt;
-        hears = λ said b s m at. goes-names p [] (work_of (on_segment b said).1 s) tt tt;
-        tags = λ number nodes b s m at asked is count. goes-names (record p { kept = without timer.Ask 0 p.kept }) [] (tagged env nodes (work_of b s)) tt (tagged-asks nodes (work_of b s) tt);
-        comes = λ from r b s m at wanted. goes-names (record p { fetches = without timer.Fetch r p.fetches }) [] (came_for (come_progress from) r (work_of b s)) tt (came-asks (come_progress from) r (work_of b s) tt);
-        reads = λ r path b s m at. goes-names p [] (came_for read_progress r (work_of b s)) tt (came-asks read_progress r (work_of b s) tt);
-        begins = λ parts m new. goes-names p (taken_sent env) (state_of (reads_batch env true (node_begins env parts))) taken-names (batch-keeps env Asks by_stay true (node_begins env parts) refl tt);
+        hears = λ said b s m at. ends-names p (work_of (on_segment b said).1 s) tt;
+        tags = λ number nodes b s m at asked is count. ends-names (record p { kept = without timer.Ask 0 p.kept }) (tagged env nodes (work_of b s)) (tagged-asks nodes (work_of b s) tt);
+        comes = λ from r b s m at wanted. ends-names (record p { fetches = without timer.Fetch r p.fetches }) (came_for (come_progress from) r (work_of b s)) (came-asks (come_progress from) r (work_of b s) tt);
+        reads = λ r path b s m at. ends-names p (came_for read_progress r (work_of b s)) (came-asks read_progress r (work_of b s) tt);
+        begins = λ parts m new may. goes-names p (taken_sent env) (state_of (reads_batch env true (node_begins env parts))) taken-names (batch-keeps env Asks by_stay true (node_begins env parts) refl tt);
         takes_again = λ parts m told. taken-names;
+        refuses = λ parts m is. (tt, refused-names);
         fires = λ b s m at.
             let w : Work = work_of (after_timer b) s in
             let before : List (Place × List ℕ) = serving_ready_of env.serve (after_timer b) (timed b) in
             let given = spoken env.serve (serving (after_timer b) s.served []) before in
             (spoken-says env.serve (serving (after_timer b) s.served []) before (ready-says env.serve (after_timer b) (timed b)), turn-names (again_sent p) w given.0 again tt);
         resends = λ m none. again;
-        ends = λ m told. (tt, tt);
+        ends = λ back m told was. (tt, tt);
+        leaves = λ b s m at back. back-names p [] (work_of b s) tt tt;
       }
 
-      pub node-names : (g : NodeGets) → IsInItsEpoch env p g → DeedNames (node_rule env p g)
+      pub node-names : (g : NodeGets) → IsOfItsEpoch env p g → DeedNames (node_rule env p g)
       node-names g at = node-keeps env p (λ g. Unit {0}) DeedNames by_node g at tt

@@ -1,17 +1,15 @@
 -- What the front end notes while it reads, behind what it noted before, and what nodes know of a connection that comes back.
-use Rattle.std.proofs.Common.{◌≡◌, ◌≤◌, ◌≢◌, ℕ, ◌+◌, List, [], ◌∷◌, length, Option, Some, None, subst, sym, arith, ⊎_elim}
+use Rattle.std.proofs.Common.{◌≡◌, ◌≤◌, ◌≢◌, ℕ, ◌+◌, [], ◌∷◌, length, Option, Some, None, subst, sym, arith, ⊎_elim}
 use Rattle.std.proofs.lemmas.Bool.{cases_eq}
 use Rattle.lard_base.specs.declared.place.Via.TheVariants.{Own}
 use Rattle.lard_history.proofs.Each.{Each, Each-append}
 use Rattle.lard_journal.specs.declared.rec.Rec.TheVariants as rec
-use Rattle.lard_law_connections.proofs.PlacesFrontMessages.{IsRefusedThere, no-give, refused-there}
 use Rattle.lard_law_connections.proofs.PlacesTurns.{IsPlaced}
 use Rattle.lard_law_connections.specs.Places.{ArePast, IsPast, IsThere, OthersArePast, Owning, Sits, owning}
-use Rattle.lard_law_view.proofs.EachFront.{HasBack}
-use Rattle.lard_law_view.specs.Prelude.{BackRow, Conn, EndpointParts, Epoch, FrontRow, NodePart, Rec, Seen, ServeEnv, Service, answer, answer_code, front_reads, serving_consumed, tale_at}
+use Rattle.lard_law_view.specs.Prelude.{BackRow, Conn, Epoch, FrontRow, NodePart, Rec, ServeEnv, Service, answer, answer_code, front_reads, serving_consumed, tale_at}
 use Rattle.lard_handoff_front.specs.declared.row.FrontConn.TheVariants as stage
 use Rattle.lard_rules.proofs.Endings.{answered-keeps, at-fin-keeps, total_with}
-use Rattle.lard_rules.proofs.FrontCases.{IsAwayWith, IsBack, of-stage}
+use Rattle.lard_rules.proofs.FrontCases.{IsAwayWith, of-stage}
 use Rattle.lard_rules.proofs.FrontReads.{reading-keeps}
 
 -- Q is so of each note, and of each response and reset
@@ -74,11 +72,3 @@ away-within x placed row n from at = ⊎_elim
           (λ (same : m ≡ n). subst (λ (i : ℕ). IsWithin row.epoch.0 (x.part.nodes i).row) (sym same) mine)
           (λ (other : m ≢ n). past-one row.epoch.0 (x.part.nodes m).row (others m other))
           (cases_eq m n)
-
--- ---- from where it comes back
-
--- its node refused it, and gave it not back: so it did not take it
-pub refuses : (x : Conn) → IsPlaced x → (n epoch : ℕ) (given : Option EndpointParts) (heads : List Seen) → HasBack x n epoch given heads
-    → (row : FrontRow) (parts : EndpointParts) → IsBack x.part.front n epoch given row parts → IsRefusedThere x n epoch row
-refuses x placed n epoch None heads comes row parts at = refused-there x placed n epoch heads comes row parts at
-refuses x placed n epoch (Some given) heads comes row parts at = absurd (no-give x placed n epoch given comes.bytes comes.was comes.spells)

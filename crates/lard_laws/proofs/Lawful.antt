@@ -7,7 +7,7 @@ use Rattle.lard_laws.proofs.AsksRuns.{asks-answered, batches-end}
 use Rattle.lard_laws.proofs.BackingQueuing.{jobs-are-asked}
 use Rattle.lard_laws.proofs.BackingRuns.{home-answers, jobs-start, requests-named, responses-backed}
 use Rattle.lard_law_connections.proofs.BytesRuns.{clients-accept, journals-serve, journals-tell}
-use Rattle.lard_law_connections.proofs.Closings.{closes-by-drain, some-node-stays}
+use Rattle.lard_law_connections.proofs.Closings.{closes-where-due, some-node-stays}
 use Rattle.lard_laws.proofs.ClientsTables.{clients-keep}
 use Rattle.lard_laws.proofs.ClientsTaking.{clients-take}
 use Rattle.lard_laws.proofs.ClientsWriters.{writers-are}
@@ -43,17 +43,17 @@ journals-lawful config files m checked r =
       places = here.acts;
       acts = only-nodes config files m r;
       clock = here.times;
-      ownership = owners-are config files m r;
-      sole_sender = senders-are config files m r;
-      motion = connections-move config files m r;
+      ownership = owners-are config files m checked r;
+      sole_sender = senders-are config files m checked r;
+      motion = connections-move config files m checked r;
       writers = writers-are config files m r;
-      takers = clients-take config files m r;
+      takers = clients-take config files m checked r;
       tables = clients-keep config files m r;
       timers = timers-change config files m r;
-      tells = journals-tell config files m small r;
-      service = journals-serve config files m small r;
-      prefix = clients-accept config files m small r;
-      resets = resets-lawful config files m small r;
+      tells = journals-tell config files m checked r;
+      service = journals-serve config files m checked r;
+      prefix = clients-accept config files m checked r;
+      resets = resets-lawful config files m checked r;
       sends_rst = rst-follows config files m r;
       stores = lawful config files m r;
       disks = disks-read config files m r;
@@ -69,28 +69,28 @@ journals-lawful config files m checked r =
       batches = shares-one-batch config files m checked r;
       loads = loads-are-charges config files m checked r;
       servers = servers-are-told config files m checked r;
-      closings = closes-by-drain config files m checked r;
+      closings = closes-where-due config files m checked r;
       some_stays = some-node-stays config files m checked r;
       most_by_room = loads-within-the-room config files m checked r;
       most_by_policy = loads-near-the-thresholds config files m checked r;
       few = connections-stay-few config files m checked r;
       never_all_busy = never-all-busy config files m checked r;
-      asks = asks-go-on config files m r;
-      tags = asks-answered config files m r;
+      asks = asks-go-on config files m checked r;
+      tags = asks-answered config files m checked r;
       batch_ends = batches-end config files m checked r;
-      sizes = batches-sized config files m small r;
-      requests = assign-in-order config files m small r;
-      paths = assign-a-prefix config files m small r;
-      names_next = asks-name config files m small r;
-      ways = contents-come config files m small r;
-      answerers = home-answers config files m small r;
-      named = requests-named config files m small r;
+      sizes = batches-sized config files m checked r;
+      requests = assign-in-order config files m checked r;
+      paths = assign-a-prefix config files m checked r;
+      names_next = asks-name config files m checked r;
+      ways = contents-come config files m checked r;
+      answerers = home-answers config files m checked r;
+      named = requests-named config files m checked r;
       came = contents-were-there config files m r;
-      backed = responses-backed config files m small r;
-      starts = jobs-start config files m small r;
+      backed = responses-backed config files m checked r;
+      starts = jobs-start config files m checked r;
       contents = contents-are-files config files m r;
-      queues = jobs-are-asked config files m small r;
-      offers = offers-carry config files m small r;
+      queues = jobs-are-asked config files m checked r;
+      offers = offers-carry config files m checked r;
       quiet = journals-complete config files m checked r;
       nothing_due = journals-answer config files m checked r;
     }

@@ -41,6 +41,7 @@ pub mod RecordsTurns
 pub mod RecordsFronts
 pub mod RecordsChoices
 pub mod RecordsCounted
+pub mod RecordsRead
 pub mod RecordsWorks
 pub mod RecordsNodes
 pub mod RecordsOuts
@@ -129,10 +130,6 @@ pub mod TagsFronts
 pub mod TagsGoing
 pub mod TagsNodes
 pub mod TagsRuns
-pub mod PastChoices
-pub mod PastClosed
-pub mod PastMoves
-pub mod PastRuns
 pub mod OriginsDisks
 pub mod OriginsFetches
 pub mod OriginsJobs

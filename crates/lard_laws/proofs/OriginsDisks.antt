@@ -1,8 +1,8 @@
 -- What a step of a node leaves on its disk: jobs that were there, its own for a connection that it decided, and those that a Fetch asked for.
-use Rattle.std.proofs.Common.{◌≡◌, ◌⊎◌, ℕ, ◌-◌, suc, ◌==◌, true, List, [], ◌∷◌, ◌++◌, take, drop, Option, Some, None, Result, Ok, Err, refl, sym, ap, ◌∙◌, subst, inl, inr, arith}
+use Rattle.std.proofs.Common.{◌≡◌, ◌⊎◌, ℕ, ◌-◌, suc, ◌==◌, true, false, List, [], ◌∷◌, ◌++◌, take, drop, Option, Some, None, Result, Ok, Err, refl, sym, ap, ◌∙◌, subst, inl, inr, arith}
 use Rattle.std.proofs.lemmas.Bool.{cond_both}
 use Rattle.std.specs.List.{list_any}
-use Rattle.lard_law_view.specs.Prelude.{Acknowledged, BackIn, BackRow, Body, Completed, Content, Ending, Fires, Forwarded, Has, Job, Message, MsgFault, Node, NodeDeed, NodeEnv, NodeGets, NodePart, NodeSetting, NodeState, NodeTurn, Offered, Place, Service, SpellsMessage, Tagged, ToCluster, Work, aside, came_for, come_progress, completed, content_sent, decoded, decoded_message, disk_step, fetched, fetched_file, goes_on, has_path, is_for, job_at, kept_after, node_begins, node_deed, node_env, node_epoch_at, node_gets, node_hears, node_part, node_put, node_read, node_rule, node_saying, node_step, on_segment, own_job, read_progress, reads_batch, serving_settled, state_of, tagged, taken_sent, with_work, without, without_job, work_of}
+use Rattle.lard_law_view.specs.Prelude.{Acknowledged, BackIn, BackRow, Body, Completed, Content, Ending, Fires, Forwarded, Has, Job, Message, MsgFault, Node, NodeDeed, NodeEnv, NodeGets, NodePart, NodeSetting, NodeState, NodeTurn, Offered, Place, Service, SpellsMessage, Tagged, ToCluster, Work, aside, came_for, come_progress, completed, content_sent, decoded, decoded_message, disk_step, fetched, fetched_file, gives_back, goes_on, has_path, is_for, job_at, kept_after, kept_back, node_begins, node_deed, node_env, node_epoch_at, node_gets, node_hears, node_part, node_put, node_read, node_rule, node_saying, node_step, on_segment, own_job, read_progress, reads_batch, serving_settled, state_of, tagged, taken_sent, with_work, without, without_job, work_of}
 use Rattle.lard_base.specs.declared.place.Place.TheVariants as place
 use Rattle.lard_base.specs.declared.place.TimerKind.TheVariants as kind
 use Rattle.lard_law_connections.specs.Places.{IsDecided}
@@ -11,7 +11,7 @@ use Rattle.lard_law_view.proofs.Parts.{node-here}
 use Rattle.lard_history.proofs.Each.{Each, Each-append, Each-weaker}
 use Rattle.lard_journal.specs.declared.rec.Rec.TheVariants as rec
 use Rattle.lard_message.specs.declared.message.Body.TheVariants as body
-use Rattle.lard_rules.proofs.NodeCases.{IsInItsEpoch, KeptByNode, node-keeps}
+use Rattle.lard_rules.proofs.NodeCases.{IsOfItsEpoch, KeptByNode, Turned, node-keeps}
 use Rattle.lard_rules.proofs.StayKeeping.{KeptByNotes, batch-works, came-works, goes-works, tagged-works}
 use Rattle.lard_rules.specs.Node.{Drops, Says, Does}
 use Rattle.lard_rules.specs.declared.node.BackIn.TheVariants as input
@@ -56,30 +56,39 @@ module _ (env : NodeEnv) where
       let e : Ending = (serving_settled env.serve w.service).0 in
       Each-weaker IsMine (IsOfRow (kept_after env q w e).row) (λ job h. (h, kept-decided q w e job.epoch.0 h.epoch)) w.jobs mine
 
+  -- its stay is over in this epoch
+  back-jobs : (q : NodePart) (before : List (Place × List ℕ)) (w : Work) → Each IsMine w.jobs → DeedJobs (gives_back env q before w)
+  back-jobs q before w mine = Each-weaker IsMine (IsOfRow (kept_back env q w).row) (λ job h. (h, omega (arith, h.epoch))) w.jobs mine
+
+  turns-jobs : (q : NodePart) (before : List (Place × List ℕ)) (w : Work) → Each IsMine w.jobs → Turned DeedJobs env q before w
+  turns-jobs q before w mine = (λ rests. works-jobs q before w mine, λ back. back-jobs q before w mine)
+
   rules_jobs : (p : NodePart) → KeptByNode env p (λ g. Unit {0}) DeedJobs
   rules_jobs p = record {
     drops = tt;
     hears = λ said b s m at.
-        works-jobs p [] (goes_on env (work_of (on_segment b said).1 s)) (goes-works env AreMine by_mine (work_of (on_segment b said).1 s) tt);
+        turns-jobs p [] (goes_on env (work_of (on_segment b said).1 s)) (goes-works env AreMine by_mine (work_of (on_segment b said).1 s) tt);
     tags = λ number nodes b s m at asked same count.
-        works-jobs (record p { kept = without kind.Ask 0 p.kept }) [] (goes_on env (tagged env nodes (work_of b s)))
+        turns-jobs (record p { kept = without kind.Ask 0 p.kept }) [] (goes_on env (tagged env nodes (work_of b s)))
         (goes-works env AreMine by_mine (tagged env nodes (work_of b s)) (tagged-works env AreMine by_mine nodes (work_of b s) tt));
     comes = λ from r b s m at wanted.
-        works-jobs (record p { fetches = without kind.Fetch r p.fetches }) [] (goes_on env (came_for (come_progress from) r (work_of b s)))
+        turns-jobs (record p { fetches = without kind.Fetch r p.fetches }) [] (goes_on env (came_for (come_progress from) r (work_of b s)))
         (goes-works env AreMine by_mine (came_for (come_progress from) r (work_of b s))
         (came-works env AreMine by_mine (come_progress from) r (work_of b s) tt));
-    reads = λ r path b s m at. works-jobs p [] (goes_on env (came_for read_progress r (work_of b s)))
+    reads = λ r path b s m at. turns-jobs p [] (goes_on env (came_for read_progress r (work_of b s)))
         (goes-works env AreMine by_mine (came_for read_progress r (work_of b s)) (came-works env AreMine by_mine read_progress r (work_of b s) tt));
-    begins = λ parts m new. works-jobs p (taken_sent env) (goes_on env (state_of (reads_batch env true (node_begins env parts))))
+    begins = λ parts m new may. works-jobs p (taken_sent env) (goes_on env (state_of (reads_batch env true (node_begins env parts))))
         (goes-works env AreMine by_mine (state_of (reads_batch env true (node_begins env parts)))
         (batch-works env AreMine by_mine true (node_begins env parts) refl tt));
     takes_again = λ parts m again. tt;
+    refuses = λ parts m is. tt;
     fires = λ b s m at. tt;
     resends = λ m none. tt;
-    ends = λ m told. tt;
+    ends = λ back m told was. tt;
+    leaves = λ b s m at back. back-jobs p [] (work_of b s) tt;
   }
 
-  rule-jobs : (p : NodePart) (g : NodeGets) → IsInItsEpoch env p g → DeedJobs (node_rule env p g)
+  rule-jobs : (p : NodePart) (g : NodeGets) → IsOfItsEpoch env p g → DeedJobs (node_rule env p g)
   rule-jobs p g at = node-keeps env p (λ g. Unit {0}) DeedJobs (rules_jobs p) g at tt
 
 -- ---- a node's step
@@ -126,7 +135,7 @@ module _ (k : NodeSetting) (disk : List Job) (i : BackIn) where
             (subst (λ (p : NodePart). IsDecided job.epoch.0 p.row) (sym (node-here s c given.0)) its.1);
       }))) given.1.jobs h)
 
-  rule-of-step : (s : NodeState) (c epoch : ℕ) (g : NodeGets) → WereThere s → IsInItsEpoch (node_env k s c epoch) (node_part s c) g
+  rule-of-step : (s : NodeState) (c epoch : ℕ) (g : NodeGets) → WereThere s → IsOfItsEpoch (node_env k s c epoch) (node_part s c) g
       → AreOfStep (node_deed k s c (node_rule (node_env k s c epoch) (node_part s c) g)).0
   rule-of-step s c epoch g old at =
       deed-jobs s c epoch (node_rule (node_env k s c epoch) (node_part s c) g) old (rule-jobs (node_env k s c epoch) (node_part s c) g at)
@@ -152,7 +161,8 @@ module _ (k : NodeSetting) (disk : List Job) (i : BackIn) where
   hears-jobs s place.Front c epoch (body.Offer parts) old asked = rule-of-step s c epoch (Offered parts) old tt
   hears-jobs s place.Front c epoch (body.Forward bytes) old asked = rule-of-step s c epoch (Forwarded (decoded bytes c ToCluster)) old tt
   hears-jobs s place.Front c epoch (body.Tag number nodes) old asked = rule-of-step s c epoch (Tagged number nodes) old tt
-  hears-jobs s place.Front c epoch body.EndedAck old asked = rule-of-step s c epoch Acknowledged old tt
+  hears-jobs s place.Front c epoch body.EndedAck old asked = rule-of-step s c epoch (Acknowledged false) old tt
+  hears-jobs s place.Front c epoch body.Given old asked = rule-of-step s c epoch (Acknowledged true) old tt
   hears-jobs s (Node from) c epoch (body.Fetch r path) old asked = fetched-jobs s from c epoch r path (k.files path) old (asked from r path refl refl)
   hears-jobs s (Node from) c epoch (body.Content r bytes) old asked = rule-of-step s c epoch (Content from r) old tt
   hears-jobs s _ c epoch _ old asked = old-jobs s s old

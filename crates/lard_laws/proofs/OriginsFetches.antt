@@ -6,9 +6,9 @@ use Rattle.std.specs.List.{find}
 use Rattle.lard_law_view.specs.Prelude.{BackRow, Config, Conn, ControlBlock, FilesAt, Has, IsMessage, IsNode, IsReached, Job, Letter, MAX_FILE_BYTES, Machine, Message, Node, NodeState, Packet, SpellsMessage, Stay, Was, config_check, conn, conn_of, content_bytes, file_at, is_from, is_under, letter_of, letters, letters_in, node_at, one_of, tale_at}
 use Rattle.lard_base.specs.declared.place.TimerKind.TheVariants as kind
 use Rattle.lard_laws.proofs.OriginsJobs.{jobs-from-home}
-use Rattle.lard_laws.proofs.PastMoves.{at-node}
-use Rattle.lard_laws.proofs.PastRuns.{others-past}
-use Rattle.lard_laws.specs.Past.{AtNode, whereabouts_of}
+use Rattle.lard_law_connections.proofs.PastMoves.{at-node}
+use Rattle.lard_law_connections.proofs.PastRuns.{others-past}
+use Rattle.lard_law_connections.specs.Past.{AtNode, whereabouts_of}
 use Rattle.lard_law_connections.proofs.PlacesFrontRules.{has-each}
 use Rattle.lard_law_connections.proofs.PlacesRuns.{each-placed}
 use Rattle.lard_law_connections.proofs.PlacesTurns.{IsPlaced}
@@ -81,11 +81,11 @@ module _ (config : Config) (files : List (List ℕ × List ℕ)) (checked : conf
   origins : (i : ℕ) (s : NodeState) (job : Job) → node_at m.nodes i ≡ Some s → Has job s.disk → (h : ℕ) (b : ControlBlock) → ((conn m job.c).part.nodes h).row ≡ Some (record { stage = back.Here b; epoch = record { 0 = job.epoch.0 } }) → job.origin ≡ h
   origins i s job at has h b row =
       let x : Conn = conn m job.c in
-      let placed : IsPlaced x = each-placed config files m reached job.c in
+      let placed : IsPlaced x = each-placed config files checked m reached job.c in
       let there : whereabouts_of x ≡ AtNode h job.epoch.0 = at-node x h job.epoch.0 (with-node x placed h job.epoch.0 b row) in
       by_number (job.origin ≡ h) job.origin h (λ is. is)
       (λ other. absurd (past-undecided job.epoch.0 (x.part.nodes job.origin).row (others-past x placed h job.epoch.0 there job.origin other)
-      (jobs-from-home config files m reached i s at job has)))
+      (jobs-from-home config files m checked reached i s at job has)))
 
   contents : (q a b e r : ℕ) (path file bytes : List ℕ) → Was (conn m q) (Node a) (Node b) bytes → SpellsMessage q e (body.Fetch r path) bytes → file_at m.files path ≡ Some file → IsMessage (content_told q e r file)
   contents q a b e r path file bytes was spells is =

@@ -1,6 +1,6 @@
 -- The jobs of all disks are for nodes that decided their connections in the epochs of the jobs, or behind these.
 use Rattle.std.proofs.Common.{◌≡◌, ◌≢◌, ◌⊎◌, ℕ, List, Option, Some, None, Ok, refl, sym, ap, ◌∙◌, subst, ⊎_elim}
-use Rattle.lard_law_view.specs.Prelude.{BackIn, Body, Config, Conn, Event, GoesBy, Has, HasRule, IsConnNumber, Job, Letter, Machine, Move, Node, NodeState, Packet, SpellsMessage, Was, conn, conn_of, grown, kept_at, letters, machine_start, machine_step, machine_told, no_stays, node_at, node_part, node_setting, node_step, packet_at, part_of, setting, with_leaving}
+use Rattle.lard_law_view.specs.Prelude.{BackIn, Body, Config, Conn, Event, GoesBy, Has, HasRule, IsConnNumber, Job, Letter, Machine, Move, Node, NodeState, Packet, SpellsMessage, Was, config_check, conn, conn_of, grown, kept_at, letters, machine_start, machine_step, machine_told, no_stays, node_at, node_part, node_setting, node_step, packet_at, part_of, setting, with_leaving}
 use Rattle.lard_laws.proofs.OriginsDisks.{IsFetched, IsOfStep, IsOwn, step-jobs}
 use Rattle.lard_laws.specs.OriginsLaws.{JobsComeFromHome}
 use Rattle.lard_law_connections.proofs.Forms.{Comes, NodeStep, NodesStay, node-form}
@@ -46,12 +46,12 @@ conn-number : (m : Machine) (q : ℕ) → (conn m q).c ≡ q
 unfolding conn
 conn-number m q = refl
 
-module _ (config : Config) (files : List (List ℕ × List ℕ)) (m n : Machine) (e : Event)
+module _ (config : Config) (files : List (List ℕ × List ℕ)) (checked : config_check config ≡ Ok tt) (m n : Machine) (e : Event)
     (on : IsOn config files m) (h : AllAsked m) (rule : HasRule e) (is : machine_step m e ≡ Ok n) where
   -- rows go on
   grows : (q : ℕ) → Grows (conn m q).part (conn n q).part
   grows q =
-      let placed : IsPlaced (conn m q) = each-placed config files m on.reached q in
+      let placed : IsPlaced (conn m q) = each-placed config files checked m on.reached q in
       let P : Conn → Move → Type 0 = Owing (setting config files) IsPlaced in
       let goes : GoesBy (λ x v. IsConnNumber x.c × P x v) (conn m q) (conn n q) =
       goes-on config files P (λ l. owing (with_leaving (setting config files) l) IsPlaced) m n e on rule is q in
@@ -88,7 +88,7 @@ module _ (config : Config) (files : List (List ℕ × List ℕ)) (m n : Machine)
         let same : SpellsMessage job.c job.epoch.0 fetch c.1.bytes = subst (SpellsMessage job.c job.epoch.0 fetch) (sym c.6) its.1 in
         let was : Was x (Node from) (Node step.i) c.1.bytes = was-letter m c.0 job.c job.epoch.0 job.r from step.i job.path c.1 c.3 c.4 c.5 same in
         let spells : SpellsMessage x.c job.epoch.0 fetch c.1.bytes = subst (λ (q : ℕ). SpellsMessage q job.epoch.0 fetch c.1.bytes) (sym (conn-number m job.c)) same in
-        let placed : IsPlaced x = each-placed config files m on.reached job.c in
+        let placed : IsPlaced x = each-placed config files checked m on.reached job.c in
         let decided : IsDecided job.epoch.0 (x.part.nodes from).row =
         came-says x (Node from) (Node step.i) job.epoch.0 fetch c.1.bytes placed.letters was spells in
         subst (λ (o : ℕ). IsDecided job.epoch.0 (x.part.nodes o).row) (sym its.0) decided
@@ -128,5 +128,5 @@ start-asked config files n s at = of-nodes
     n at
 
 pub jobs-from-home : JobsComeFromHome
-jobs-from-home config files m r i s at job has = has-each (IsAsked m) job s.disk has
-    (carried-keep config files AllAsked (start-asked config files) (λ k n e on h rule is. step-asked config files k n e on h rule is) m r i s at)
+jobs-from-home config files m checked r i s at job has = has-each (IsAsked m) job s.disk has
+    (carried-keep config files AllAsked (start-asked config files) (λ k n e on h rule is. step-asked config files checked k n e on h rule is) m r i s at)

@@ -1,7 +1,7 @@
 -- A connection that a place has, and both of whose ends rest, is complete.
 use Rattle.std.proofs.Common.{◌≡◌, ◌&&◌, not, ℕ, Bool, true, false, List, [], length, map, Some, ⊎_elim, refl, sym, ap, ◌∙◌, subst, None}
 use Rattle.std.proofs.lemmas.Bool.{both_ways}
-use Rattle.lard_law_view.specs.Prelude.{Agrees, AtFront, BackConn, Config, Conn, ControlBlock, FilesAt, HasStopped, IsComplete, Machine, Nowhere, Rec, Seat, Station, Stream, Tale, Talk, Verdict, answer_bytes, answers, closes_any, conn, file_at, front_rest, has_aborted, is_clear, is_touched, may_freeze, seat_armed, tale_at, verdicts, was_reset}
+use Rattle.lard_law_view.specs.Prelude.{Agrees, AtFront, BackConn, Config, Conn, ControlBlock, FilesAt, HasStopped, IsComplete, Machine, Nowhere, Rec, Seat, Station, Stream, Tale, Talk, Verdict, answer_bytes, answers, closes_any, conn, file_at, front_rest, has_aborted, is_clear, is_touched, may_freeze, seat_armed, tale_at, verdicts, was_reset, which_leave}
 use Rattle.lard_laws.specs.Acks.{AcksWhatWasTaken, BackActs, BackStageActs, EndActs, FrontActs, FrontStageActs, OpenActs, StationActs, bounds_of, story_at}
 use Rattle.lard_laws.proofs.AcksRuns.{connections-ack}
 use Rattle.lard_laws.proofs.AcksStory.{reset-told}
@@ -13,8 +13,8 @@ use Rattle.lard_law_connections.proofs.BytesRuns.{states-truthful}
 use Rattle.lard_law_connections.proofs.PlacesRuns.{each-placed}
 use Rattle.lard_law_connections.proofs.PlacesTurns.{IsPlaced}
 use Rattle.lard_laws.specs.QuietRests.{ClientRests, HeldRests, RestingIsComplete, RestsSomewhere, StayRests}
-use Rattle.lard_law_connections.specs.Stops.{BackStageStops, FrontStageStops, FrontStops, HeldStops, FirstIsAwaited, IsHeldBack, ReadingStops, RowStops, StayStops}
-use Rattle.lard_law_connections.proofs.StopsRuns.{connections-stop}
+use Rattle.lard_law_connections.specs.Stops.{BackStageRests, FirstIsAwaited, FrontStageStops, FrontStops, HeldStops, IsHeldBack, ReadingStopsBy, ReadsNone, RowRests, StayStopsBy}
+use Rattle.lard_law_connections.proofs.StopsRuns.{each-stops}
 use Rattle.lard_handoff_back.specs.declared.row.BackConn.TheVariants as back
 use Rattle.lard_handoff_front.specs.declared.row.FrontConn.TheVariants as stage
 use Rattle.lard_history.proofs.Lifting.{tale-own}
@@ -39,6 +39,13 @@ stopped-held w out vs b count h stopped = record {
   stopped = stopped;
 }
 
+-- one that says nothing more and goes on may move
+pub may-move : (w out : Stream) (vs us : List Verdict) (b : ControlBlock) (count : ℕ) → HoldsItPending w out vs us b count → is_clear b.send ≡ true → b.send.finished ≡ false → may_freeze b ≡ true
+may-move w out vs us b count held clear open_ = by b.recv.discarding refl where
+  by : (d : Bool) → b.recv.discarding ≡ d → may_freeze b ≡ true
+  by true e = absurd (both_ways b.send.finished open_ (held.has_read.stops e).0)
+  by false e = λ i. (clear i && not (open_ i)) && (not (e i) && not (held.not_reset i))
+
 -- ---- one connection
 
 -- what is so of it, in terms of its own story and tale
@@ -48,7 +55,7 @@ pub record IsDone (files : FilesAt) (x : Conn) : Type 0 where
   pub ends : closes_any (verdicts (tale_at x).wrote) ≡ true → (story_at x).ended ≡ true
   pub shut : (story_at x).shut ≡ true → (story_at x).ended ≡ true
 
-module _ (files : FilesAt) (x : Conn) (truth : IsTruthful files x) (acts : AcksWhatWasTaken x) (stops : ReadingStops files x) (placed : IsPlaced x) (not_aborted : (story_at x).aborted ≡ false) (not_reset : (story_at x).reset ≡ false) (rests : ClientRests x) where
+module _ (files : FilesAt) (x : Conn) (truth : IsTruthful files x) (acts : AcksWhatWasTaken x) (leaving : ℕ → Bool) (stops : ReadingStopsBy leaving files x) (placed : IsPlaced x) (not_aborted : (story_at x).aborted ≡ false) (not_reset : (story_at x).reset ≡ false) (rests : ClientRests x) where
   abbrev s : Station
   s = rests.station
 
@@ -125,12 +132,8 @@ module _ (files : FilesAt) (x : Conn) (truth : IsTruthful files x) (acts : AcksW
     stop = subst (FrontStageStops files) h.at (subst (FrontStops files) h.found stops.0)
 
     -- it would be placed
-    may : (d : Bool) → b.recv.discarding ≡ d → b.send.finished ≡ false → may_freeze b ≡ true
-    may true e open_ = absurd (both_ways b.send.finished open_ (agrees.holds.has_read.stops e).0)
-    may false e open_ = λ i. (h.clear i && not (open_ i)) && (not (e i) && not (stop.0 i))
-
     stopped : HasStopped b
-    stopped = ⊎_elim (λ (t : HasStopped b). t) (λ (t : IsHeldBack files b). absurd (both_ways (may_freeze b) t.2 (may b.recv.discarding refl t.1))) stop.1
+    stopped = ⊎_elim (λ (t : HasStopped b). t) (λ (t : IsHeldBack files b). absurd (both_ways (may_freeze b) t.2 (may-move l.w l.out l.vs [] b (front_rest x.part.front.rest).count agrees.holds h.clear t.1))) stop.1
 
   -- ---- at a node
 
@@ -148,11 +151,16 @@ module _ (files : FilesAt) (x : Conn) (truth : IsTruthful files x) (acts : AcksW
     act : BackStageActs (bounds_of x s r.heard) (back.Here b)
     act = subst (BackStageActs (bounds_of x s r.heard)) h.at (subst (BackActs (bounds_of x s r.heard)) h.found (r.within.nodes n))
 
-    row-stops : RowStops (Some h.row) (Some h.stay)
-    row-stops = subst (RowStops (Some h.row)) h.stays (subst (λ (q : _). RowStops q (x.part.nodes n).stay) h.found (stops.1 n))
+    row-stops : RowRests (leaving n) (Some h.row) (Some h.stay)
+    row-stops = subst (RowRests (leaving n) (Some h.row)) h.stays (subst (λ (q : _). RowRests (leaving n) q (x.part.nodes n).stay) h.found (stops.1 n))
 
-    stop : StayStops b h.stay.batch
-    stop = subst (λ (st : BackConn). BackStageStops st (Some h.stay)) h.at row-stops
+    stop : StayStopsBy (leaving n) b h.stay.batch
+    stop = subst (λ (st : BackConn). BackStageRests (leaving n) st (Some h.stay)) h.at row-stops
+
+    -- a node that leaves would give it back
+    reads-none : (t : Bool) → b.send.finished ≡ false → ReadsNone t b → HasStopped b
+    reads-none false open_ none = none
+    reads-none true open_ none = absurd (both_ways (may_freeze b) none (may-move l.w l.out l.vs pend b h.stay.served agrees.1 h.clear open_))
 
     -- what comes is discarded behind the last of all
     nothing : (d : Bool) → b.recv.discarding ≡ d → (b.recv.discarding ≡ false → h.stay.batch ≡ []) → pend ≡ []
@@ -163,7 +171,7 @@ module _ (files : FilesAt) (x : Conn) (truth : IsTruthful files x) (acts : AcksW
     stopped-by true e = let t = stop.closed e in (t.0, nothing b.recv.discarding refl t.1)
     stopped-by false e = ⊎_elim
         (λ (a : FirstIsAwaited h.stay.batch). absurd (h.ready a))
-        (λ (t : HasStopped b × (h.stay.batch ≡ [])). (t.0, nothing b.recv.discarding refl (λ keeps. t.1))) (stop.open_ e)
+        (λ (t : ReadsNone (leaving n) b × (h.stay.batch ≡ [])). (reads-none (leaving n) e t.0, nothing b.recv.discarding refl (λ keeps. t.1))) (stop.open_ e)
 
     stopped : HasStopped b × (pend ≡ [])
     stopped = stopped-by b.send.finished refl
@@ -205,7 +213,7 @@ module _ (config : Config) (files : List (List ℕ × List ℕ)) (m : Machine) (
   reset-at e = sym (reset-story J c) ∙ e
 
 pub resting-complete : RestingIsComplete
-resting-complete config files m small r c calm not_aborted not_reset client rests =
+resting-complete config files m checked r c calm not_aborted not_reset client rests =
     let here = calm-at config files m c calm in
-    complete config files m c (somewhere-done (file_at files) (conn m c) (states-truthful config files small m r c here) (connections-ack config files small m r c here) (connections-stop config files m r c)
-    (each-placed config files m r c) (aborted-at config files m c not_aborted) (reset-at config files m c not_reset) client rests)
+    complete config files m c (somewhere-done (file_at files) (conn m c) (states-truthful config files checked m r c here) (connections-ack config files checked m r c here) (which_leave m) (each-stops config files m r c)
+    (each-placed config files checked m r c) (aborted-at config files m c not_aborted) (reset-at config files m c not_reset) client rests)

@@ -1,11 +1,10 @@
 -- At the end of each step a connection that is quiet, by the journal, is complete or in the line.
-use Rattle.std.proofs.Common.{◌≡◌, ◌⊎◌, ◌<◌, ◌≤◌, ◌+◌, ◌==◌, ◌||◌, ℕ, Bool, true, false, List, [], ◌∷◌, length, Option, Some, None, Ok, inl, inr, ⊎_elim, refl, ap, ◌∙◌, subst, arith, eqb-true}
+use Rattle.std.proofs.Common.{◌≡◌, ◌⊎◌, ◌<◌, ◌+◌, ◌==◌, ◌||◌, ℕ, Bool, true, false, List, [], ◌∷◌, length, Option, Some, None, Ok, inl, inr, ⊎_elim, refl, ap, ◌∙◌, subst, arith, eqb-true}
 use Rattle.std.proofs.lemmas.Bool.{both_ways}
 use Rattle.std.specs.FinMap as table
 use Rattle.std.specs.List.{list_any}
 use Rattle.std.specs.Prelude.{IsSome}
-use Rattle.lard_base.proofs.Usable.{usable}
-use Rattle.lard_law_view.specs.Prelude.{ClientStands, Config, DispatchStanding, FrontPart, Has, IsComplete, IsReached, IsRowSound, IsStageSound, MAX_STREAM_BYTES, Machine, Station, Waiting, client_tale, config_check, conn, dispatch_standing, file_at, front_part, line_waits, numbers_of, part_of, tale}
+use Rattle.lard_law_view.specs.Prelude.{ClientStands, Config, DispatchStanding, FrontPart, Has, IsComplete, IsReached, IsRowSound, IsStageSound, Machine, Station, Waiting, client_tale, config_check, conn, dispatch_standing, file_at, front_part, line_waits, numbers_of, part_of, tale}
 use Rattle.lard_rules.specs.FrontSound.{OpenNodes, open_nodes_of}
 use Rattle.lard_laws.proofs.ClientsWriters.{clients-stand}
 use Rattle.lard_law_connections.specs.JobsLaws.{HasQueued}
@@ -74,9 +73,6 @@ module _ (config : Config) (files : List (List ℕ × List ℕ)) (checked : conf
   opened None is some stands = absurd (both_ways false refl (subst IsSome (numbers-tale m.journal c ∙ stands.numbers) some))
   opened (Some s) is some stands = (s, is)
 
-  pub small : config.stream ≤ MAX_STREAM_BYTES
-  small = (usable config checked).stream
-
 pub quiet-complete : (config : Config) (files : List (List ℕ × List ℕ)) → config_check config ≡ Ok tt → (m : Machine) → IsReached config files m → QuietIsCompleteOrInLine config (file_at files) m.journal
 unfolding conn part_of
 quiet-complete config files checked m r c some calm not_aborted not_reset quiet none =
@@ -85,7 +81,7 @@ quiet-complete config files checked m r c some calm not_aborted not_reset quiet 
     (λ (left : IsWaiting (conn m c) ⊎ AwaitsADisk (conn m c)). ⊎_elim
     (λ (waits : IsWaiting (conn m c)). inr (waits-for-room config files checked m r c waits))
     (λ (reads : AwaitsADisk (conn m c)). absurd (disk-has config files checked m r c reads none)) left)
-    (quiet-or-else config files m (small config files checked m r c) r c station.0 station.1 calm not_aborted not_reset quiet)
+    (quiet-or-else config files m checked r c station.0 station.1 calm not_aborted not_reset quiet)
 
 pub journals-complete : JournalsComplete
 journals-complete config files m checked r = carried-ends config files (QuietIsCompleteOrInLine config (file_at files)) (quiet-complete config files checked) m r

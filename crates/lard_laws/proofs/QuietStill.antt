@@ -2,13 +2,13 @@
 use Rattle.std.proofs.Common.{◌≡◌, ◌⊎◌, ◌+◌, ◌==◌, ◌||◌, not, ℕ, Bool, true, false, cond, List, [], ◌∷◌, Option, Some, None, inl, inr, ⊎_elim, refl, sym, ap, ◌∙◌, subst}
 use Rattle.std.proofs.lemmas.Bool.{and_parts, both_ways}
 use Rattle.std.specs.List.{find, list_any}
-use Rattle.lard_law_view.specs.Prelude.{BackConn, BackRow, Client, Conn, ControlBlock, Entry, FilesAt, Front, FrontConn, FrontRow, Kept, Node, NodePart, Progress, Stay, Talk, TimerKind, Verdict, back_endpoint, back_held, conn, file_at, front_armed, holds_kind, is_clear, is_client_armed, is_under, is_unsaid, kind_rank, next_by, node_armed, row_armed, stage_armed, station_armed}
+use Rattle.lard_law_view.specs.Prelude.{BackConn, BackRow, Client, Conn, ControlBlock, Entry, FilesAt, Front, FrontConn, FrontRow, Kept, Node, NodePart, Progress, Stay, Talk, TimerKind, Verdict, back_endpoint, back_held, conn, file_at, front_armed, holds_kind, is_clear, is_client_armed, is_under, is_unsaid, kind_rank, next_by, node_armed, row_armed, stage_armed, station_armed, which_leave}
 use Rattle.lard_base.specs.declared.place.TimerKind.TheVariants as timer
 use Rattle.lard_laws.specs.Acks.{AcksWhatWasTaken, story_at}
 use Rattle.lard_laws.proofs.AcksRuns.{connections-ack}
 use Rattle.lard_law_connections.specs.Awaits.{AwaitsWhatItAsked, BatchComes, IsToCome, RowComes, StageComes, StayComes}
 use Rattle.lard_law_connections.proofs.AwaitsRuns.{connections-await}
-use Rattle.lard_law_connections.specs.BytesAgreement.{BackAgrees, IsOffering, IsTruthful, NodeAgrees, RowAgrees, SeatAgrees, StageAgrees, StayAgrees}
+use Rattle.lard_law_connections.specs.BytesAgreement.{BackAgrees, IsEnding, IsOffering, IsReturning, IsTruthful, NodeAgrees, RowAgrees, SeatAgrees, StageAgrees, StayAgrees}
 use Rattle.lard_law_connections.proofs.BytesClientMoves.{open-at}
 use Rattle.lard_law_connections.proofs.BytesRuns.{states-truthful}
 use Rattle.lard_laws.specs.EndedEnds.{EndsAreTrue}
@@ -21,8 +21,8 @@ use Rattle.lard_laws.specs.QuietStill.{AwaitsADisk, IsWaiting, QuietIsCompleteOr
 use Rattle.lard_laws.proofs.QuietClosed.{closed-done}
 use Rattle.lard_laws.proofs.QuietComplete.{IsDone, aborted-at, calm-at, complete, nowhere-done, reset-at, somewhere-done}
 use Rattle.lard_laws.proofs.StepsTimers.{timers-kept}
-use Rattle.lard_law_connections.specs.Stops.{FirstIsAwaited, ReadingStops}
-use Rattle.lard_law_connections.proofs.StopsRuns.{connections-stop}
+use Rattle.lard_law_connections.specs.Stops.{FirstIsAwaited, ReadingStopsBy}
+use Rattle.lard_law_connections.proofs.StopsRuns.{each-stops}
 use Rattle.lard_handoff_back.specs.declared.row.BackConn.TheVariants as back
 use Rattle.lard_handoff_front.specs.declared.row.FrontConn.TheVariants as stage
 use Rattle.lard_rules.specs.declared.stay.Next.TheVariants as next
@@ -47,7 +47,7 @@ unarmed : (t : Bool) → not t ≡ false → t ≡ true
 unarmed true e = refl
 unarmed false e = absurd (both_ways true e refl)
 
-module _ (files : FilesAt) (x : Conn) (truth : IsTruthful files x) (acts : AcksWhatWasTaken x) (stops : ReadingStops files x) (ends : EndsAreTrue files x) (awaits : AwaitsWhatItAsked files x) (placed : IsPlaced x) (not_aborted : (story_at x).aborted ≡ false) (not_reset : (story_at x).reset ≡ false)
+module _ (files : FilesAt) (x : Conn) (truth : IsTruthful files x) (acts : AcksWhatWasTaken x) (leaving : ℕ → Bool) (stops : ReadingStopsBy leaving files x) (ends : EndsAreTrue files x) (awaits : AwaitsWhatItAsked files x) (placed : IsPlaced x) (not_aborted : (story_at x).aborted ≡ false) (not_reset : (story_at x).reset ≡ false)
     (client : ClientRests x) (front : (a : TimerKind) → front_armed x.part.front a ≡ false) (nodes : (n : ℕ) (a : TimerKind) → node_armed (x.part.nodes n) a ≡ false) where
   abbrev Left : Type 0
   Left = IsDone files x ⊎ (IsWaiting x ⊎ AwaitsADisk x)
@@ -72,7 +72,7 @@ module _ (files : FilesAt) (x : Conn) (truth : IsTruthful files x) (acts : AcksW
       comes = subst (StayComes files p) stays (subst (StageComes files p) at (subst (RowComes files p) found (awaits n)))
 
       rests : (FirstIsAwaited t.batch → ⊥) → Left
-      rests ready = inl (somewhere-done files x truth acts stops placed not_aborted not_reset client (inr (n, record { row = row; block = b; stay = t; found = found; at = at; stays = stays; clear = clear; ready = ready })))
+      rests ready = inl (somewhere-done files x truth acts leaving stops placed not_aborted not_reset client (inr (n, record { row = row; block = b; stay = t; found = found; at = at; stays = stays; clear = clear; ready = ready })))
 
       by-first : (e : Entry) (es : List Entry) → t.batch ≡ e ∷ es → (q : Progress) → e.progress ≡ q → IsToCome files p.kept p.fetches (t.served + 1) e.verdict q → Left
       by-first e es is (progress.Ready way) first by = rests (λ a. let no : next.Serve ≡ next.Stop = sym (ap next_by first) ∙ subst FirstIsAwaited is a in cc)
@@ -91,7 +91,9 @@ module _ (files : FilesAt) (x : Conn) (truth : IsTruthful files x) (acts : AcksW
     stage-left : (row : BackRow) → p.row ≡ Some row → (st : BackConn) → row.stage ≡ st → BackAgrees l.w l.out l.vs pend l.was_reset x.c row.epoch.0 p st → Left
     stage-left row found (back.Here b) at agrees = stay-left row b found at p.stay refl agrees
     stage-left row found back.Out at agrees = absurd agrees
-    stage-left row found back.Ended at agrees = absurd (both_ways (holds_kind timer.Ended p.kept) (nodes n timer.Ended) (ap (holds_kind timer.Ended) agrees.kept_is))
+    stage-left row found back.Ended at agrees = absurd (⊎_elim
+        (λ (ending : IsEnding l.w l.was_reset x.c row.epoch.0 p.kept). both_ways (holds_kind timer.Ended p.kept) (nodes n timer.Ended) (ap (holds_kind timer.Ended) ending.kept_is))
+        (λ (returning : IsReturning l.w l.out l.vs pend x.c row.epoch.0 p). both_ways (holds_kind timer.Give p.kept) (nodes n timer.Give) (ap (holds_kind timer.Give) returning.kept_is)) agrees)
     stage-left row found back.Gone at agrees = absurd agrees
 
     node-left : (q : Option BackRow) → p.row ≡ q → RowAgrees l.w l.out l.vs pend l.was_reset x.c p q → Left
@@ -103,7 +105,7 @@ module _ (files : FilesAt) (x : Conn) (truth : IsTruthful files x) (acts : AcksW
   front-left : (row : FrontRow) → x.part.front.row ≡ Some row → (st : FrontConn) → row.stage ≡ st → StageAgrees l.w l.out l.vs pend l.was_reset x.c x.part row.epoch.0 st → Left
   front-left row found (stage.Held b) at agrees =
       let clear : is_clear b.send ≡ true = unarmed (is_clear b.send) (sym (ap row_armed found ∙ ap stage_armed at) ∙ front timer.Tcp) in
-      inl (somewhere-done files x truth acts stops placed not_aborted not_reset client (inl (record { row = row; block = b; found = found; at = at; clear = clear })))
+      inl (somewhere-done files x truth acts leaving stops placed not_aborted not_reset client (inl (record { row = row; block = b; found = found; at = at; clear = clear })))
   front-left row found (stage.Waiting b) at agrees = inr (inl (row, b, found, at))
   front-left row found stage.Lent at agrees = absurd agrees
   front-left row found (stage.Offering n e) at agrees = ⊎_elim
@@ -114,21 +116,21 @@ module _ (files : FilesAt) (x : Conn) (truth : IsTruthful files x) (acts : AcksW
   front-left row found (stage.Closed last) at agrees = inl (closed-done files x truth acts ends not_aborted not_reset client.station client.there row last found at)
 
   pub still-left : (q : Option FrontRow) → x.part.front.row ≡ q → SeatAgrees l.w l.out l.vs pend l.was_reset x.c x.part q → Left
-  still-left None found agrees = inl (nowhere-done files x truth acts stops placed not_aborted not_reset client found)
+  still-left None found agrees = inl (nowhere-done files x truth acts leaving stops placed not_aborted not_reset client found)
   still-left (Some row) found agrees = front-left row found row.stage refl agrees
 
 -- ---- every state
 
 pub quiet-or-else : QuietIsCompleteOrElse
 unfolding conn
-quiet-or-else config files m small r c s there calm not_aborted not_reset quiet =
+quiet-or-else config files m checked r c s there calm not_aborted not_reset quiet =
     let x : Conn = conn m c in
     let here = calm-at config files m c calm in
-    let truth : IsTruthful (file_at files) x = states-truthful config files small m r c here in
+    let truth : IsTruthful (file_at files) x = states-truthful config files checked m r c here in
     let kept = timers-kept config files m r c in
     let armed : is_client_armed s.client ≡ false = ap station_armed (sym there) ∙ sym (kept (Client c) refl timer.Tcp) ∙ quiet (Client c) timer.Tcp in
     let client : ClientRests x = record { station = s; there = there; quiet = armed } in
     ⊎_elim (λ (d : IsDone (file_at files) x). inl (complete config files m c d)) (λ rest. inr rest)
-    (still-left (file_at files) x truth (connections-ack config files small m r c here) (connections-stop config files m r c) (connections-were-closed config files small m r c here) (connections-await config files m r c) (each-placed config files m r c)
+    (still-left (file_at files) x truth (connections-ack config files checked m r c here) (which_leave m) (each-stops config files m r c) (connections-were-closed config files checked m r c here) (connections-await config files m r c) (each-placed config files checked m r c)
     (aborted-at config files m c not_aborted) (reset-at config files m c not_reset) client
     (λ a. sym (kept Front tt a) ∙ quiet Front a) (λ n a. sym (kept (Node n) tt a) ∙ quiet (Node n) a) x.part.front.row refl (open-at (file_at files) x s there truth).seat)

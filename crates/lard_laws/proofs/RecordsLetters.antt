@@ -5,7 +5,7 @@ use Rattle.std.proofs.lemmas.Bool.{cond-false, le-ltb}
 use Rattle.std.proofs.lemmas.List.{append-nil}
 use Rattle.std.specs.Int.{from_be_bytes, to_be_bytes, w16, w32}
 use Rattle.std.specs.List.{AllByRecursion, flat_map}
-use Rattle.lard_law_view.specs.Prelude.{Body, Client, EndpointParts, FitsFields, Front, IsMessage, IsNumber, IsOfTable, IsPlaceInRange, IsUnspaced, Kind, MAX_SEGMENT_BYTES, Message, Node, Place, Reason, ask_at, body_bytes, byte_at, counted_bytes, decoded_message, ended_body_at, flag_byte, header_bytes, kind_number, kind_of, number_at, parts_bytes, parts_numbers, paths_at, reason_at, reason_byte, spelled_message, version_of}
+use Rattle.lard_law_view.specs.Prelude.{Body, Client, EndpointParts, FitsFields, Front, IsMessage, IsNumber, IsOfTable, IsPlaceInRange, IsUnspaced, Kind, MAX_SEGMENT_BYTES, Message, Node, Place, Reason, ask_at, body_bytes, byte_at, counted_bytes, decoded_message, ended_body_at, flag_byte, give_at, header_bytes, kind_number, kind_of, number_at, parts_at, parts_bytes, parts_numbers, paths_at, reason_at, reason_byte, spelled_message, version_of}
 use Rattle.lard_base.specs.declared.place.Reason.TheVariants as reason
 use Rattle.lard_rules.specs.Bounds as cluster
 use Rattle.lard_law_connections.proofs.PlacesHeads.{spelled-body}
@@ -217,6 +217,11 @@ taken-says c epoch m is =
     let read = spelled-body (record { c = c; epoch = record { 0 = epoch }; body = body.Taken }) m is in
     subst (λ (p : Body × List ℕ). HasPaths p.0) (some_same (body.Taken, []) (m.body, read.0) read.1) tt
 
+pub refused-says : (c epoch : ℕ) → SaysPaths (message c epoch body.Refused)
+refused-says c epoch m is =
+    let read = spelled-body (record { c = c; epoch = record { 0 = epoch }; body = body.Refused }) m is in
+    subst (λ (p : Body × List ℕ). HasPaths p.0) (some_same (body.Refused, []) (m.body, read.0) read.1) tt
+
 ended-none : (bytes : List ℕ) (b : Body) (rest : List ℕ) → ended_body_at bytes ≡ Some (b, rest) → HasPaths b
 unfolding ended_body_at
 ended-none bytes b rest e =
@@ -228,3 +233,14 @@ pub ended-says : (c epoch : ℕ) (why : Reason) (snd rcv count : ℕ) → SaysPa
 ended-says c epoch why snd rcv count m is =
     let read = spelled-body (record { c = c; epoch = record { 0 = epoch }; body = body.Ended why snd rcv count }) m is in
     ended-none (body_bytes (body.Ended why snd rcv count)) m.body read.0 read.1
+
+give-none : (bytes : List ℕ) (b : Body) (rest : List ℕ) → give_at bytes ≡ Some (b, rest) → HasPaths b
+unfolding give_at
+give-none bytes b rest e =
+    let y : Body × List ℕ = (b, rest) in
+    bind_then (parts_at bytes) _ y e (λ given e1 n1. subst (λ (p : Body × List ℕ). HasPaths p.0) (some_same (body.Give given.0, given.1) y n1) tt)
+
+pub give-says : (c epoch : ℕ) (parts : EndpointParts) → SaysPaths (message c epoch (body.Give parts))
+give-says c epoch parts m is =
+    let read = spelled-body (record { c = c; epoch = record { 0 = epoch }; body = body.Give parts }) m is in
+    give-none (body_bytes (body.Give parts)) m.body read.0 read.1

@@ -1,5 +1,5 @@
 -- A step of a node: what it keeps of each connection, its disk, and what it does, is in range.
-use Rattle.std.proofs.Common.{◌≡◌, ℕ, suc, ◌+◌, ◌-◌, ◌≤◌, ◌<◌, ◌^◌, ◌==◌, List, [], ◌∷◌, ◌++◌, length, take, drop, Option, Some, None, IfSome, Ok, Err, Result, refl, sym, ap, subst, arith, length-append, length-drop}
+use Rattle.std.proofs.Common.{◌≡◌, ℕ, suc, ◌+◌, ◌-◌, ◌≤◌, ◌<◌, ◌^◌, ◌==◌, List, [], ◌∷◌, ◌++◌, length, take, drop, true, false, Option, Some, None, IfSome, Ok, Err, Result, refl, sym, ap, subst, arith, length-append, length-drop}
 use Rattle.std.proofs.lemmas.Bool.{cond_both}
 use Rattle.std.proofs.lemmas.List.{length-take}
 use Rattle.std.specs.FinMap as table
@@ -25,7 +25,7 @@ use Rattle.lard_law_view.proofs.ContentRange.{IsContent}
 use Rattle.lard_message.specs.declared.message.Body.TheVariants as body
 use Rattle.lard_message.specs.Message as message
 use Rattle.lard_rules.specs.declared.node.BackIn.TheVariants as input
-use Rattle.lard_rules.proofs.NodeCases.{IsInItsEpoch}
+use Rattle.lard_rules.proofs.NodeCases.{IsOfItsEpoch}
 use Rattle.lard_rules.specs.Node.{Drops, Says, Does}
 
 -- what a node keeps of all connections, and the jobs of its disk
@@ -88,7 +88,7 @@ module _ (k : NodeSetting) (n-is : IsNumber k.n) (small : k.stream ≤ 2 ^ 30) (
       )
 
   rule-fits : (s : NodeState) → PlaceKeeps k.n most s → length s.disk ≤ 2 ^ 30 → (c epoch : ℕ) → cluster.IsConnNumber c → epoch < 2 ^ 16 → (g : NodeGets)
-      → IsInItsEpoch (node_env k s c epoch) (node_part s c) g → MayFit g
+      → IsOfItsEpoch (node_env k s c epoch) (node_part s c) g → MayFit g
       → StepFits (node_deed k s c (node_rule (node_env k s c epoch) (node_part s c) g))
   rule-fits s h short c epoch n early g at m = deed-fits s c (node_rule (node_env k s c epoch) (node_part s c) g) h n
       (node.rule-fits (node_env k s c epoch) refl n-is n early small files short most packets (node_part s c) (h.each c) g at m)
@@ -132,7 +132,8 @@ module _ (k : NodeSetting) (n-is : IsNumber k.n) (small : k.stream ≤ 2 ^ 30) (
     hears-fits bytes place.Front c epoch (body.Forward segment) f d is read =
         rule-fits s h short c epoch (message-number _ is) is.epoch (Forwarded (decoded segment c ToCluster)) tt (forward-fits (decoded segment c ToCluster) (λ said of. told-decoded segment c ToCluster said of (forward-read bytes c epoch segment d read)))
     hears-fits bytes place.Front c epoch (body.Tag z nodes) f d is read = rule-fits s h short c epoch (message-number _ is) is.epoch (Tagged z nodes) tt (numbers nodes is.fits.1)
-    hears-fits bytes place.Front c epoch body.EndedAck f d is read = rule-fits s h short c epoch (message-number _ is) is.epoch Acknowledged tt tt
+    hears-fits bytes place.Front c epoch body.EndedAck f d is read = rule-fits s h short c epoch (message-number _ is) is.epoch (Acknowledged false) tt tt
+    hears-fits bytes place.Front c epoch body.Given f d is read = rule-fits s h short c epoch (message-number _ is) is.epoch (Acknowledged true) tt tt
     hears-fits bytes (place.Node from) c epoch (body.Fetch r path) f d is read = fetched-fits c epoch (message-number _ is) is.epoch from r path (k.files path) refl f is.fits
     hears-fits bytes (place.Node from) c epoch (body.Content r file) f d is read = rule-fits s h short c epoch (message-number _ is) is.epoch (Content from r) tt f
     hears-fits bytes _ c epoch _ f d is read = still s h

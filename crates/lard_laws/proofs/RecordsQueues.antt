@@ -6,14 +6,15 @@ use Rattle.std.proofs.lemmas.Bool.Decides.{nat_tests}
 use Rattle.std.proofs.lemmas.List.{length-take}
 use Rattle.std.proofs.lemmas.Option.{slice_get_within}
 use Rattle.std.specs.List.{list_any}
-use Rattle.lard_law_view.specs.Prelude.{Acknowledged, BackIn, BackRow, Body, Completed, Content, Fires, Forwarded, Job, Kind, Message, MsgFault, NodeDeed, NodeEnv, NodeGets, NodePart, NodeSetting, NodeState, NodeTurn, Offered, Out, Place, Progress, Tagged, ToCluster, Verdict, Work, aside, batch_of, body_at, bytes_used, came_for, come_on, come_progress, completed, connection_at, content_sent, decoded, decoded_message, disk_step, epoch_at as message_epoch, fetched, fetched_file, goes_on, has_path, is_for, is_of_table, is_version, job_at, kind_named, length_at, node_begins, node_brought, node_deed, node_env, node_epoch_at, node_gets, node_hears, node_part, node_read, node_rule, node_saying, node_step, nothing_done, number_byte, on_segment, own_job, read_progress, reads_batch, state_of, tagged, version_at, with_body, with_kind, without_job, work_of}
+use Rattle.lard_law_view.specs.Prelude.{Acknowledged, BackIn, BackRow, Body, Completed, Content, Fires, Forwarded, Job, Kind, Message, MsgFault, NodeDeed, NodeEnv, NodeGets, NodePart, NodeSetting, NodeState, NodeTurn, Offered, Out, Place, Progress, Tagged, ToCluster, Verdict, Work, aside, batch_of, body_at, bytes_used, came_for, come_on, come_progress, completed, connection_at, content_sent, decoded, decoded_message, disk_step, epoch_at as message_epoch, fetched, fetched_file, goes_on, has_path, is_for, is_of_table, is_version, job_at, kind_named, length_at, node_begins, node_brought, node_deed, node_env, node_epoch_at, node_gets, node_hears, node_part, node_read, node_rule, node_saying, node_step, nothing_done, number_byte, on_segment, own_job, read_progress, reads_batch, state_of, tagged, version_at, with_body, with_kind, without, without_job, work_of}
 use Rattle.lard_base.specs.declared.ids.TheConstants.ConnId.{MAX}
 use Rattle.lard_base.specs.declared.place.Place.TheVariants as place
+use Rattle.lard_base.specs.declared.place.TimerKind.TheVariants as kind
 use Rattle.lard_journal.specs.declared.rec.Rec.TheVariants as rec
 use Rattle.lard_message.specs.declared.fault.MsgFault.TheVariants as fault
 use Rattle.lard_message.specs.declared.message.Body.TheVariants as body
 use Rattle.lard_rules.specs.declared.node.BackIn.TheVariants as input
-use Rattle.lard_rules.proofs.NodeCases.{IsInItsEpoch, KeptByNode, node-keeps}
+use Rattle.lard_rules.proofs.NodeCases.{IsOfItsEpoch, KeptByNode, Turned, node-keeps}
 use Rattle.lard_rules.specs.Node.{Drops, Does, Says}
 use Rattle.lard_rules.proofs.StayWalking.{KeptByReads, KeptByStarts, state-in, tagged-in, these-in}
 use Rattle.lard_rules.proofs.StayKeeping.{turning-keeps}
@@ -129,21 +130,29 @@ module _ (env : NodeEnv) where
   MayQueue (Tagged number nodes) = length nodes ≤ 8
   MayQueue _ = Unit {0}
 
+  -- it rests with these jobs, or goes back with them
+  turns-few : (q : NodePart) (w : Work) → length w.jobs ≤ 8 → Turned QueuesFew env q [] w
+  turns-few q w few = (λ rests. few, λ back. few)
+
   rules_few : (p : NodePart) → KeptByNode env p MayQueue QueuesFew
   rules_few p = record {
     drops = tt;
-    hears = λ said b s m at. on-few (work_of (on_segment b said).1 s) (omega arith);
-    tags = λ number nodes b s m at asked same count. on-few (tagged env nodes (work_of b s)) (starts-few 8 nodes (work_of b s) (omega (arith, m)));
-    comes = λ from r b s m at wanted. came-few (come_progress from) r (work_of b s) (omega arith);
-    reads = λ r path b s m at. came-few read_progress r (work_of b s) (omega arith);
-    begins = λ parts m new. on-few (state_of (reads_batch env true (node_begins env parts))) (first-few 8 (node_begins env parts) refl (omega arith));
+    hears = λ said b s m at. turns-few p (goes_on env (work_of (on_segment b said).1 s)) (on-few (work_of (on_segment b said).1 s) (omega arith));
+    tags = λ number nodes b s m at asked same count. turns-few (record p { kept = without kind.Ask 0 p.kept }) (goes_on env (tagged env nodes (work_of b s)))
+        (on-few (tagged env nodes (work_of b s)) (starts-few 8 nodes (work_of b s) (omega (arith, m))));
+    comes = λ from r b s m at wanted. turns-few (record p { fetches = without kind.Fetch r p.fetches }) (goes_on env (came_for (come_progress from) r (work_of b s)))
+        (came-few (come_progress from) r (work_of b s) (omega arith));
+    reads = λ r path b s m at. turns-few p (goes_on env (came_for read_progress r (work_of b s))) (came-few read_progress r (work_of b s) (omega arith));
+    begins = λ parts m new may. on-few (state_of (reads_batch env true (node_begins env parts))) (first-few 8 (node_begins env parts) refl (omega arith));
     takes_again = λ parts m again. tt;
+    refuses = λ parts m is. omega arith;
     fires = λ b s m at. omega arith;
     resends = λ m none. tt;
-    ends = λ m told. omega arith;
+    ends = λ back m told was. omega arith;
+    leaves = λ b s m at back. omega arith;
   }
 
-  rule-few : (p : NodePart) (g : NodeGets) → IsInItsEpoch env p g → MayQueue g → QueuesFew (node_rule env p g)
+  rule-few : (p : NodePart) (g : NodeGets) → IsOfItsEpoch env p g → MayQueue g → QueuesFew (node_rule env p g)
   rule-few p g at m = node-keeps env p MayQueue QueuesFew (rules_few p) g at m
 
 -- ---- a node's step
@@ -161,7 +170,7 @@ module _ (k : NodeSetting) where
   deed-gains env s c (Says messages) few = let more = length-append s.disk [] in omega (arith, more)
   deed-gains env s c (Does x) few = let more = length-append s.disk x.1.jobs in omega (arith, more, few)
 
-  rule-gains : (s : NodeState) (c epoch : ℕ) (g : NodeGets) → IsInItsEpoch (node_env k s c epoch) (node_part s c) g → MayQueue (node_env k s c epoch) g
+  rule-gains : (s : NodeState) (c epoch : ℕ) (g : NodeGets) → IsOfItsEpoch (node_env k s c epoch) (node_part s c) g → MayQueue (node_env k s c epoch) g
       → GainsFew s.disk (node_deed k s c (node_rule (node_env k s c epoch) (node_part s c) g)).0.disk
   rule-gains s c epoch g at m = deed-gains (node_env k s c epoch) s c (node_rule (node_env k s c epoch) (node_part s c) g) (rule-few (node_env k s c epoch) (node_part s c) g at m)
 
@@ -183,7 +192,8 @@ module _ (k : NodeSetting) where
   hears-gains s place.Front c epoch (body.Offer parts) few = rule-gains s c epoch (Offered parts) tt tt
   hears-gains s place.Front c epoch (body.Forward bytes) few = rule-gains s c epoch (Forwarded (decoded bytes c ToCluster)) tt tt
   hears-gains s place.Front c epoch (body.Tag number nodes) few = rule-gains s c epoch (Tagged number nodes) tt few
-  hears-gains s place.Front c epoch body.EndedAck few = rule-gains s c epoch Acknowledged tt tt
+  hears-gains s place.Front c epoch body.EndedAck few = rule-gains s c epoch (Acknowledged false) tt tt
+  hears-gains s place.Front c epoch body.Given few = rule-gains s c epoch (Acknowledged true) tt tt
   hears-gains s (place.Node from) c epoch (body.Fetch r path) few = fetched-gains s from c epoch r path (k.files path)
   hears-gains s (place.Node from) c epoch (body.Content r bytes) few = rule-gains s c epoch (Content from r) tt tt
   hears-gains s _ c epoch _ few = still-gains s.disk

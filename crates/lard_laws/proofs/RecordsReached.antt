@@ -14,7 +14,7 @@ use Rattle.lard_rules.specs.declared.fault.StepFault.TheVariants.{Limit, Refused
 use Rattle.lard_laws.specs.Records.{IsRunFile, IsScheduled, RecordsAreInRange}
 use Rattle.lard_law_connections.proofs.Forms.{ComesToFront}
 use Rattle.lard_law_connections.proofs.Happened.{done-happens}
-use Rattle.lard_law_connections.proofs.PlacesRuns.{may-come}
+use Rattle.lard_law_connections.proofs.LeaversRuns.{may-come}
 use Rattle.lard_laws.proofs.RecordsDisks.{DisksAreShort, disks-short}
 use Rattle.lard_laws.proofs.RecordsFronts.{FrontKeeps, no-rest}
 use Rattle.lard_laws.proofs.RecordsHolding.{HasRoom, Holds, IsPacket, NodeHolds, StationKeeps, client-holds, front-holds, node-holds, passed-holds}

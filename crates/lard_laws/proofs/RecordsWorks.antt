@@ -256,6 +256,7 @@ module _ (env : NodeEnv) (own : env.serve.place ≡ Node env.n) (node : IsNumber
       served-counts env way e rest k first a.1,
     );
     stops = λ k may a. a;
+    holds = λ k leaves none may a. a;
   }) w (h, counts)
 
   -- ---- what came

@@ -1,7 +1,7 @@
 -- What a run's packets bring to the front end may come: where one closes a node, another one is open.
 use Rattle.std.proofs.Common.{◌≡◌, ℕ, List, Some, refl}
 use Rattle.lard_base.specs.declared.event.Event.TheVariants as event
-use Rattle.lard_law_connections.proofs.PlacesRuns.{may-come}
+use Rattle.lard_law_connections.proofs.LeaversRuns.{may-come}
 use Rattle.lard_law_view.specs.Prelude.{Config, Front, IsReached, Machine, MayClose, Node, Packet, packet_at}
 use Rattle.lard_rules.specs.declared.front.FrontIn.TheVariants as input
 

@@ -1,7 +1,7 @@
 -- Each rule of a node tells its client all that came, and asks for what its batch is.
 use Rattle.std.proofs.Common.{◌≡◌, ◌≤◌, ◌+◌, ◌^◌, ℕ, cond, List, [], ◌∷◌, ◌++◌, length, map, take, Option, Some, None, inl, refl, sym, ap, ◌∙◌, subst, arith}
 use Rattle.std.proofs.lemmas.List.{map-append}
-use Rattle.lard_law_view.specs.Prelude.{AreSent, BackRow, Completed, Conn, ControlBlock, EndpointParts, FilesAt, Front, IsConnNumber, IsConnSound, IsNodeEnv, Kept, Move, Node, NodeDeed, NodeEnv, NodeGets, NodePart, NodeRules, NodeTurn, Place, Rec, Seen, Setting, Stay, Tale, Talk, after_timer, again_sent, came_for, come_progress, content_said, goes_on, gone, named_records, node_does, node_fired, node_rule, nothing_said, offer_answer, offered_by, on_segment, packet_seen, read_progress, reads_first, seen_step, sent_of, served_in, serving, serving_ready_of, spoken, stands, tagged, taken_sent, tale_at, tale_step, timed, verdicts, with_node, with_work, without, work_of}
+use Rattle.lard_law_view.specs.Prelude.{AreSent, BackRow, Completed, Conn, ControlBlock, EndpointParts, FilesAt, Front, IsConnNumber, IsConnSound, IsNodeEnv, Kept, Move, Node, NodeDeed, NodeEnv, NodeGets, NodePart, NodeRules, NodeTurn, Place, Rec, Seen, Setting, Stay, Tale, Talk, Work, after_timer, again_sent, came_for, come_progress, content_said, gives_back, goes_on, gone, named_records, node_does, node_fired, node_rule, nothing_said, offer_answer, offered_by, on_segment, packet_seen, read_progress, reads_first, seen_step, sent_of, served_in, serving, serving_ready_of, spoken, stands, tagged, taken_sent, tale_at, tale_step, timed, verdicts, with_node, with_work, without, work_of}
 use Rattle.lard_base.specs.declared.place.TimerKind.TheVariants as timer
 use Rattle.lard_law_connections.specs.BytesAgreement.{IsOpen, IsTruthful}
 use Rattle.lard_law_connections.proofs.BytesLaw.{IsHead}
@@ -18,7 +18,7 @@ use Rattle.lard_laws.specs.Sizes.{SizeMarks, TakeOver, take_over_step}
 use Rattle.lard_laws.proofs.SizesMoving.{IsSaid, IsTelling, acts, marks_now, node-said}
 use Rattle.lard_laws.proofs.SizesOffers.{new-fits}
 use Rattle.lard_laws.proofs.SizesReading.{HasGoodBehind}
-use Rattle.lard_laws.proofs.SizesStays.{IsAgreeing, comes-fit, fires-fit, hears-fit, reads-fit, tags-fit}
+use Rattle.lard_laws.proofs.SizesStays.{IsAgreeing, comes-fit, fires-fit, hears-fit, leaves-fit, reads-fit, tags-fit}
 use Rattle.lard_laws.proofs.SizesTaken.{named-take, plain-taken}
 use Rattle.lard_laws.proofs.SizesTurns.{DeedFits, PartLeft, PartReach, Reads, RowLeft, RowReach, RowReads, SaysFit, StayLeft, now_told, other-says, past_take_over, reads-reach}
 use Rattle.lard_law_view.proofs.Fine.{IsItsOwn}
@@ -34,7 +34,7 @@ use Rattle.lard_handoff_back.specs.declared.table.Adopt.TheVariants.{New}
 use Rattle.lard_law_view.proofs.EachNode.{Answers, Aside, Brings, HasCome, MayAside, NodeComes, Queues, aside_said, aside_seen, each-node, job_notes, told_first}
 use Rattle.lard_law_view.proofs.NodeHeads.{heads-of}
 use Rattle.lard_laws.proofs.NodeStays.{StayHolds, stay-holds, word-of}
-use Rattle.lard_rules.proofs.NodeCases.{IsHereWith, IsInItsEpoch, KeptByNode, node-keeps, of-here}
+use Rattle.lard_rules.proofs.NodeCases.{IsHereWith, IsOfItsEpoch, KeptByNode, Turned, node-keeps, of-here}
 use Rattle.std.specs.List.{fold}
 use Rattle.lard_rules.specs.Node.{Does, Drops, Says}
 use Rattle.lard_rules.specs.NodePlace as node_place
@@ -151,6 +151,9 @@ module _ (k : Setting) (small : k.stream ≤ 2 ^ 30) (x : Conn) (number : IsConn
   own-fits : (d : NodeDeed) → DeedFits env.serve.files env.serve.c x n u before d → Fits d
   own-fits d f = subst (λ (files : FilesAt). DeedFits files x.c x n u before d) is.files (subst (λ (c : ℕ). DeedFits env.serve.files c x n u before d) is.number f)
 
+  own-turned : (q : NodePart) (w : Work) → Turned (λ d. DeedFits env.serve.files env.serve.c x n u before d) env q [] w → Turned Fits env q [] w
+  own-turned q w h = (λ rests. own-fits (with_work env q [] w) (h.0 rests), λ back. own-fits (gives_back env q [] w) (h.1 back))
+
   own-way : GoesItsWay env.serve.files x
   own-way = subst (λ (files : FilesAt). GoesItsWay files x) (sym is.files) g
 
@@ -184,24 +187,32 @@ module _ (k : Setting) (small : k.stream ≤ 2 ^ 30) (x : Conn) (number : IsConn
   rules_fit = record {
     drops = tt;
     hears = λ said b t m at.
-        own-fits (with_work env part [] (goes_on env (work_of (on_segment b said).1 t))) (hears-fit env x n u before l truth.pend part b t (agreeing b t at) said (word-of k x truth n epoch heads said m));
+        own-turned part (goes_on env (work_of (on_segment b said).1 t)) (hears-fit env x n u before l truth.pend part b t (agreeing b t at) said (word-of k x truth n epoch heads said m));
     tags = λ ask nodes b t m at asked same count.
-        own-fits (with_work env (record part { kept = without timer.Ask 0 part.kept }) [] (goes_on env (tagged env nodes (work_of b t)))) (tags-fit env x n u before l truth.pend part b t (agreeing b t at) nodes);
-    comes = λ from r b t m at wanted. own-fits (with_work env (record part { fetches = without timer.Fetch r part.fetches }) [] (goes_on env (came_for (come_progress from) r (work_of b t)))) (comes-fit env x n u before l truth.pend part b t (agreeing b t at) from r);
+        own-turned (record part { kept = without timer.Ask 0 part.kept }) (goes_on env (tagged env nodes (work_of b t))) (tags-fit env x n u before l truth.pend part b t (agreeing b t at) nodes);
+    comes = λ from r b t m at wanted. own-turned (record part { fetches = without timer.Fetch r part.fetches }) (goes_on env (came_for (come_progress from) r (work_of b t))) (comes-fit env x n u before l truth.pend part b t (agreeing b t at) from r);
     reads = λ r path b t m at.
-        own-fits (with_work env part [] (goes_on env (came_for read_progress r (work_of b t)))) (reads-fit env x n u before l truth.pend part b t (agreeing b t at) r);
-    begins = begins;
+        own-turned part (goes_on env (came_for read_progress r (work_of b t))) (reads-fit env x n u before l truth.pend part b t (agreeing b t at) r);
+    begins = λ parts m new may. begins parts m new;
     takes_again = λ parts m again.
         own-fits (Says (taken_sent env)) (other-says env.serve.files x n u before before env.serve.c env.epoch Front body.Taken (λ e. let no : kind.Taken ≡ kind.Ask = e in absurd cc), tt);
+    refuses = λ parts m is. record {
+      each = tt;
+      to = tt;
+      left = h.left n;
+      reach = reads-reach u before.wrote part.stay part.row (reads.here n);
+      says = (other-says k.files x n u before _ env.serve.c env.epoch Front body.Refused (λ e. let no : kind.Refused ≡ kind.Ask = e in absurd cc), tt);
+    };
     fires = λ b t m at.
         own-fits (Does (node_fired env part (b, t) (spoken env.serve (serving (after_timer b) t.served []) (serving_ready_of env.serve (after_timer b) (timed b)))))
         (fires-fit env x n u before l truth.pend part b t (agreeing b t at) (λ now. again-says env.serve.files x n u reads sound now));
     resends = λ m none. again-says k.files x n u reads sound before;
-    ends = λ m told.
+    ends = λ back m told was.
         record { each = tt; to = tt; left = gone-left k.files x n u reads before part.stay part.row; reach = gone-reach k.files x n u reads before.wrote part.stay part.row; says = tt };
+    leaves = λ b t m at back. own-fits (gives_back env part [] (work_of b t)) (leaves-fit env x n u before l truth.pend part b t (agreeing b t at) back);
   }
 
-  pub rule-fits : (g : NodeGets) → IsInItsEpoch env part g → NodeComes x n epoch heads g → Fits (node_rule env part g)
+  pub rule-fits : (g : NodeGets) → IsOfItsEpoch env part g → NodeComes x n epoch heads g → Fits (node_rule env part g)
   rule-fits g at comes = node-keeps env part (NodeComes x n epoch heads) Fits rules_fit g at comes
 
 module _ (k : Setting) (small : k.stream ≤ 2 ^ 30) where
@@ -223,6 +234,6 @@ module _ (k : Setting) (small : k.stream ≤ 2 ^ 30) where
   pub nodes : NodeRules k Owed
   nodes = each-node k Owed (record {
     does = λ x n epoch env heads g is at comes number sound truth way own owes placed h u reads.
-        rule-said k.files x n u reads epoch heads g comes (node_rule env (x.part.nodes n) g) (rule-fits k small x number sound truth way placed h u reads n epoch env is heads g at comes) own owes placed h;
+        rule-said k.files x n u reads epoch heads g comes (node_rule env (x.part.nodes n) g) (rule-fits k small x number sound truth way placed h u reads n epoch env is heads g at.0 comes) own owes placed h;
     aside = asides-said;
   })

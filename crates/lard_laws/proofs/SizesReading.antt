@@ -243,7 +243,7 @@ module _ (env : NodeEnv) (w out : Stream) (vs : List Verdict) (u t : ℕ) where
     }
 
   -- nothing was asked yet, where nothing waits
-  none-asked : (k : Work) (o : Option Asked) → k.asked ≡ o → k.batch ≡ [] → AskSo k o → k.asked ≡ None
+  pub none-asked : (k : Work) (o : Option Asked) → k.asked ≡ o → k.batch ≡ [] → AskSo k o → k.asked ≡ None
   none-asked k None is none h = is
   none-asked k (Some a) is none h = absurd (h.some (h.names ∙ ap (named_paths files) none))
 

@@ -2,7 +2,8 @@
 use Rattle.std.proofs.Common.{◌≡◌, ◌≤◌, ◌^◌, ℕ, Bool, true, false, cond, List, [], ◌∷◌, ◌++◌, map, Some, Ok, refl, sym, ap, ◌∙◌, subst, append_assoc, append-nil}
 use Rattle.std.proofs.lemmas.List.Sums.{fold-append}
 use Rattle.std.specs.List.{AllByRecursion, fold}
-use Rattle.lard_law_view.specs.Prelude.{Client, Config, Conn, EachStep, Event, FilesAt, Front, FrontRules, GoesBy, HasRule, IsConnNumber, IsConnSound, IsReached, Machine, MayRestOn, Move, Node, OfEach, Packet, Place, Rec, Row, Rules, Seen, Setting, Station, Tale, Untouched, UntouchedRules, client_does, client_injects, conn, file_at, front_does, front_rule, grown, inject_seen, is_opening, is_touched, machine_start, machine_step, net_of, net_step, nothing_said, own, packet_seen, plain, rows_of, seen_in, seen_of, seen_on, seen_step, setting, stands, steps, tale_at, tale_of, tale_step, untold, whose, with_leaving}
+use Rattle.lard_base.proofs.Usable.{usable}
+use Rattle.lard_law_view.specs.Prelude.{Client, Config, Conn, EachStep, Event, FilesAt, Front, FrontRules, GoesBy, HasRule, IsConnNumber, IsConnSound, IsReached, Machine, MayRestOn, Move, Node, OfEach, Packet, Place, Rec, Row, Rules, Seen, Setting, Station, Tale, Untouched, UntouchedRules, client_does, client_injects, config_check, conn, file_at, front_does, front_rule, grown, inject_seen, is_opening, is_touched, machine_start, machine_step, net_of, net_step, nothing_said, own, packet_seen, plain, rows_of, seen_in, seen_of, seen_on, seen_step, setting, stands, steps, tale_at, tale_of, tale_step, untold, whose, with_leaving}
 use Rattle.lard_law_view.proofs.EachFront.{each-front}
 use Rattle.lard_base.specs.declared.event.Event.TheVariants as event
 use Rattle.lard_law_connections.specs.BytesAgreement.{IsTruthful}
@@ -201,12 +202,15 @@ module _ (c : ℕ) where
 
 -- ---- every run
 
-module _ (config : Config) (files : List (List ℕ × List ℕ)) (small : config.stream ≤ 2 ^ 30) where
+module _ (config : Config) (files : List (List ℕ × List ℕ)) (checked : config_check config ≡ Ok tt) where
   abbrev k : Setting
   k = setting config files
 
+  small : k.stream ≤ 2 ^ 30
+  small = (usable config checked).stream
+
   each-given : OfEach config files (Given k small)
-  each-given m r q = (each-placed config files m r q, states-truthful config files small m r q, (ways.each-guarded config files small m r q).0)
+  each-given m r q = (each-placed config files checked m r q, states-truthful config files checked m r q, (ways.each-guarded config files checked m r q).0)
 
   -- what is known in each state
   abbrev IsAsRead : ℕ → Conn → Type 0
@@ -271,4 +275,4 @@ module _ (config : Config) (files : List (List ℕ × List ℕ)) (small : config
       m r).lawful.1
 
 pub batches-sized : BatchesHaveTheirSize
-batches-sized config files m small r = sizes config files small m r
+batches-sized config files m checked r = sizes config files checked m r

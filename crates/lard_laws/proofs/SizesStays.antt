@@ -1,6 +1,6 @@
 -- Each rule of a stay leaves its client told of all that came, and asks for what its batch is.
-use Rattle.std.proofs.Common.{◌≡◌, ◌+◌, ℕ, List, [], ◌++◌, length, take, Some, None, inl, inr, refl, sym, ap, ◌∙◌, subst, arith}
-use Rattle.lard_law_view.specs.Prelude.{Conn, ControlBlock, Ending, FilesAt, IsWord, NodeDeed, NodeEnv, NodePart, Numbers, Progress, Said, Stay, Talk, Turn, Verdict, Work, after_timer, again_sent, came_for, come_progress, goes_on, kept_after, node_fired, on_segment, read_progress, serving, serving_ready_of, spoken, tagged, timed, verdicts, with_work, without, work_of}
+use Rattle.std.proofs.Common.{◌≡◌, ◌+◌, ℕ, true, List, [], ◌++◌, length, take, Some, None, inl, inr, refl, sym, ap, ◌∙◌, subst, arith}
+use Rattle.lard_law_view.specs.Prelude.{Conn, ControlBlock, Ending, FilesAt, IsWord, NodeDeed, NodeEnv, NodePart, Numbers, Progress, Said, Stay, Talk, Turn, Verdict, Work, after_timer, again_sent, came_for, come_progress, gives_back, goes_on, kept_after, may_give_back, node_fired, on_segment, read_progress, serving, serving_ready_of, spoken, tagged, timed, verdicts, without, work_of}
 use Rattle.lard_base.specs.declared.place.TimerKind.TheVariants as timer
 use Rattle.lard_law_connections.proofs.AwaitsNodes.{HasServed, spoken-served}
 use Rattle.lard_law_connections.specs.BytesKeeping.{IsTalk}
@@ -19,8 +19,9 @@ use Rattle.lard_laws.proofs.SizesEntering.{Grows, came-grows, tagged-grows}
 use Rattle.lard_laws.proofs.SizesReading.{AskSo, Fits, HasGood, HasGoodBehind}
 use Rattle.lard_laws.proofs.SizesTaken.{plain-taken}
 use Rattle.lard_laws.proofs.SizesTelling.{IsQuiet, fired-held, heard-quiet}
-use Rattle.lard_laws.proofs.SizesTurns.{DeedFits, PartReach, SaysFit, ended-says, goes-on-fits, now_told, part-left, past_take_over}
+use Rattle.lard_laws.proofs.SizesTurns.{DeedFits, PartReach, SaysFit, back-fits, ended-says, goes-back-fits, goes-on-fits, now_told, part-left, past_take_over}
 use Rattle.lard_history.proofs.Each.{Each, Each-append}
+use Rattle.lard_rules.proofs.NodeCases.{Turned}
 use Rattle.lard_rules.specs.Node.{Does}
 use Rattle.lard_rules.specs.declared.places.Ending.TheVariants as ending
 
@@ -62,10 +63,15 @@ module _ (env : NodeEnv) (x : Conn) (n u : ℕ) (past : SizeMarks) (l : Talk) (p
 
   -- no node takes it
   goes-turn : (d : ControlBlock) (part : NodePart) (k : Work) → Grows (work_of d s) k 0 → Works env l.w l.out l.vs k → Right env l.w l.out l.vs k
-      → IsQuiet past.told d → Each IsPlain k.service.notes → Fit (with_work env part [] (goes_on env k))
+      → IsQuiet past.told d → Each IsPlain k.service.notes → Turned Fit env part [] (goes_on env k)
   goes-turn d part k g works right quiet plain =
-      goes-on-fits env x n u past.taken past l.w l.out l.vs a.talk a.num a.numbers a.isn a.wrote a.counted part [] none-said k works right (begins-fit d k g) (subst (IsQuiet past.told) (sym g.block) quiet) (goes-so env l.w l.out l.vs a.talk.most k works right)
-      (plain-taken env.serve.c (past_take_over fs env.serve.c x n u past) (goes_on env k).service.notes (goes-notes (Each IsPlain) plain-more env k plain))
+      let fits = begins-fit d k g in
+      let still : IsQuiet past.told k.service.block = subst (IsQuiet past.told) (sym g.block) quiet in
+      let after = goes-so env l.w l.out l.vs a.talk.most k works right in
+      let took = plain-taken env.serve.c (past_take_over fs env.serve.c x n u past) (goes_on env k).service.notes (goes-notes (Each IsPlain) plain-more env k plain) in (
+        λ rests. goes-on-fits env x n u past.taken past l.w l.out l.vs a.talk a.num a.numbers a.isn a.wrote a.counted part [] none-said k works right fits still after took,
+        λ back. goes-back-fits env x n u past.taken past l.w l.out l.vs a.talk a.num a.numbers a.isn a.wrote a.counted part [] none-said k works right fits still after took back,
+      )
 
   same-grows : (d : ControlBlock) → Grows (work_of d s) (work_of d s) 0
   same-grows d = record { block = refl; count = refl; asked = refl; size = omega arith }
@@ -76,27 +82,30 @@ module _ (env : NodeEnv) (x : Conn) (n u : ℕ) (past : SizeMarks) (l : Talk) (p
   same : Works env l.w l.out l.vs (work_of b s)
   same = same-works env l.w l.out l.vs l.was_reset pend (b, s) a.talk.says a.held
 
-  pub hears-fit : (said : Said) → IsWord l.w said → Fit (with_work env p [] (goes_on env (work_of (on_segment b said).1 s)))
+  pub leaves-fit : may_give_back env (work_of b s) ≡ true → Fit (gives_back env p [] (work_of b s))
+  leaves-fit back = back-fits env x n u past.taken past l.w l.out l.vs a.talk a.num a.numbers a.isn a.wrote a.counted (work_of b s) same (begins-fit b (work_of b s) (same-grows b)) quiet-so refl p back
+
+  pub hears-fit : (said : Said) → IsWord l.w said → Turned Fit env p [] (goes_on env (work_of (on_segment b said).1 s))
   hears-fit said word =
       let d : ControlBlock = (on_segment b said).1 in
       goes-turn d p (work_of d s) (same-grows d)
       (subst (So env.serve l.w l.out l.vs (serving d s.served [])) a.held.0 (heard-so env.serve l.w l.out l.vs a.talk.says pend b s.served a.held.1 a.talk.stream said word)) a.held.2
       (heard-quiet past.told b said a.held.1.not_reset a.told) tt
 
-  pub tags-fit : (nodes : List ℕ) → Fit (with_work env (record p { kept = without timer.Ask 0 p.kept }) [] (goes_on env (tagged env nodes (work_of b s))))
+  pub tags-fit : (nodes : List ℕ) → Turned Fit env (record p { kept = without timer.Ask 0 p.kept }) [] (goes_on env (tagged env nodes (work_of b s)))
   tags-fit nodes =
       let k : Work = work_of b s in
       goes-turn b (record p { kept = without timer.Ask 0 p.kept }) (tagged env nodes k) (tagged-grows env nodes k) (tagged-so env l.w l.out l.vs nodes k same) (tagged-right env nodes k a.held.2) quiet-so (tagged-notes (Each IsPlain) plain-more env nodes k tt)
 
-  came-fit : (part : NodePart) (f : Progress → Progress) → KeepsWay fs f → (i : ℕ) → Fit (with_work env part [] (goes_on env (came_for f i (work_of b s))))
+  came-fit : (part : NodePart) (f : Progress → Progress) → KeepsWay fs f → (i : ℕ) → Turned Fit env part [] (goes_on env (came_for f i (work_of b s)))
   came-fit part f on i =
       let k : Work = work_of b s in goes-turn b part (came_for f i k) (came-grows f i k) (came-so env l.w l.out l.vs f i k same) (came-right fs f on i k a.held.2) quiet-so (came-notes (Each IsPlain) plain-more f i k tt)
 
   pub comes-fit : (from i : ℕ)
-      → Fit (with_work env (record p { fetches = without timer.Fetch i p.fetches }) [] (goes_on env (came_for (come_progress from) i (work_of b s))))
+      → Turned Fit env (record p { fetches = without timer.Fetch i p.fetches }) [] (goes_on env (came_for (come_progress from) i (work_of b s)))
   comes-fit from i = came-fit (record p { fetches = without timer.Fetch i p.fetches }) (come_progress from) (come_progress-on fs from) i
 
-  pub reads-fit : (i : ℕ) → Fit (with_work env p [] (goes_on env (came_for read_progress i (work_of b s))))
+  pub reads-fit : (i : ℕ) → Turned Fit env p [] (goes_on env (came_for read_progress i (work_of b s)))
   reads-fit i = came-fit p read_progress (read_progress-on fs) i
 
   -- ---- its timer fires: what is kept was sent before

@@ -2,7 +2,7 @@
 use Rattle.std.proofs.Common.{◌≡◌, ◌≢◌, ◌⊎◌, ◌≤◌, ◌<◌, ◌+◌, ◌-◌, ◌*◌, ◌/◌, ◌^◌, ℕ, min, Bool, true, false, List, [], ◌∷◌, ◌++◌, length, take, drop, Option, Some, None, Ok, inl, inr, refl, sym, ap, ◌∙◌, subst, arith}
 use Rattle.std.proofs.lemmas.List.{length-take, take-append-drop, take_all}
 use Rattle.std.specs.List.{fold}
-use Rattle.lard_law_view.specs.Prelude.{Asked, BackConn, BackRow, Body, Client, Conn, ControlBlock, Ending, Entry, FilesAt, Front, Hears, IsStream, Message, Node, NodeDeed, NodeEnv, NodePart, NodeTurn, Numbers, Place, Rec, Received, Service, Stay, Stream, Turn, Verdict, Want, Was, Work, asked_sent, awaited, decoded_message, ended_sent, goes_on, kept_after, kind_of, named_paths, one_if, rcv_nxt, seq_add, seq_offset, served_in, serving_settled, tale_at, verdicts, wants_sent, with_work}
+use Rattle.lard_law_view.specs.Prelude.{Asked, BackConn, BackRow, Body, Client, Conn, ControlBlock, Ending, Entry, FilesAt, Front, Hears, IsStream, Message, Node, NodeDeed, NodeEnv, NodePart, NodeTurn, Numbers, Place, Rec, Received, Service, Stay, Stream, Turn, Verdict, Want, Was, Work, asked_sent, awaited, decoded_message, ended_sent, give_kept, gives_back, goes_on, kept_after, may_give_back, kind_of, named_paths, one_if, parts_of, rcv_nxt, seq_add, seq_offset, sent_of, served_in, serving_settled, tale_at, verdicts, wants_sent, with_work}
 use Rattle.lard_law_connections.specs.BytesKeeping.{IsTalk}
 use Rattle.lard_law_connections.specs.BytesTurning.{IsNoteOf}
 use Rattle.lard_law_connections.proofs.BytesWorking.{Right, Works}
@@ -11,7 +11,8 @@ use Rattle.lard_law_connections.proofs.LineSpeaking.{IsTold, heard_by}
 use Rattle.lard_laws.specs.Sizes.{BodyIsOfBatch, IsOfBatch, SizeMarks, TakeOver, batch_behind, batch_begins, complete, symbols_acknowledged, take_over_step, to_assign}
 use Rattle.lard_law_connections.proofs.AwaitsNodes.{HasServed, settled-served}
 use Rattle.lard_law_connections.proofs.PlacesHeads.{kinds-same}
-use Rattle.lard_laws.proofs.SizesReading.{AskSo, Fits, HasGoodBehind, Reach, goes-fit}
+use Rattle.lard_law_connections.proofs.NodeReady.{is-ready}
+use Rattle.lard_laws.proofs.SizesReading.{AskSo, Fits, HasGoodBehind, Reach, goes-fit, none-asked}
 use Rattle.lard_laws.proofs.SizesTelling.{Acknowledges, IsQuiet, SameRecv, goes-wider, settled-held, settled-recv, settled-told, wider-quiet}
 use Rattle.lard_laws.specs.Ways.{good_paths}
 use Rattle.lard_laws.proofs.WaysGoods.{good-append}
@@ -299,8 +300,32 @@ module _ (env : NodeEnv) (x : Conn) (n u t : ℕ) (past : SizeMarks) (w out : St
               (ended-says now s.over given.0);
         }
 
+    -- it goes back: nothing was asked that is not answered
+    pub back-fits : (part : NodePart) → may_give_back env k ≡ true → Fit (gives_back env part [] k)
+    back-fits part back =
+        let now : SizeMarks = now_told files c x n u past k.service.notes [] in
+        let quiet : k.asked ≡ None = none-asked env w out vs u t k k.asked refl (is-ready env k back).none fits.asked in
+        record {
+          each = works.noted.each;
+          to = tt;
+          left = tt;
+          reach = tt;
+          says = Each-append (Say now) (asked_sent env k.asked ++ wants_sent env k.wants) (sent_of (give_kept env k) ∷ [])
+              (Each-append (Say now) (asked_sent env k.asked) (wants_sent env k.wants) (subst (λ (o : Option Asked). Each (Say now) (asked_sent env o)) (sym quiet) tt) (wants-say now k.wants))
+              (other-says files x n u past now c env.epoch Front (body.Give (parts_of k.service.block k.service.count)) (λ e. let no : kind.Give ≡ kind.Ask = e in absurd cc), tt);
+        }
+
   -- the stay goes on
-  pub goes-on-fits : (part : NodePart) (before : List (Place × List ℕ)) → ((now : SizeMarks) → Each (Say now) before) → (k : Work) → Works env w out vs k → Right env w out vs k → Fits env w out vs u t k → IsQuiet past.told k.service.block → (after : Works env w out vs (goes_on env k))
-      → IsTakenBehind (goes_on env k).service.notes → Fit (with_work env part before (goes_on env k))
-  goes-on-fits part before first k works right fits quiet after took =
-      work-fits (goes_on env k) after (goes-fit env w out vs u t talk.most k works right fits) (wider-quiet past.told k.service.block (goes_on env k).service.block (goes-wider env k) quiet) took part before first
+  module _ (part : NodePart) (before : List (Place × List ℕ)) (first : (now : SizeMarks) → Each (Say now) before) (k : Work) (works : Works env w out vs k) (right : Right env w out vs k) (fits : Fits env w out vs u t k) (quiet : IsQuiet past.told k.service.block)
+      (after : Works env w out vs (goes_on env k)) (took : IsTakenBehind (goes_on env k).service.notes) where
+    goes-fits : Fits env w out vs u t (goes_on env k)
+    goes-fits = goes-fit env w out vs u t talk.most k works right fits
+
+    goes-quiet : IsQuiet past.told (goes_on env k).service.block
+    goes-quiet = wider-quiet past.told k.service.block (goes_on env k).service.block (goes-wider env k) quiet
+
+    pub goes-on-fits : Fit (with_work env part before (goes_on env k))
+    goes-on-fits = work-fits (goes_on env k) after goes-fits goes-quiet took part before first
+
+    pub goes-back-fits : may_give_back env (goes_on env k) ≡ true → Fit (gives_back env part [] (goes_on env k))
+    goes-back-fits back = back-fits (goes_on env k) after goes-fits goes-quiet took part back

@@ -7,7 +7,7 @@ use Rattle.std.specs.List.{fold, list_all}
 use Rattle.lard_law_view.specs.Prelude.{Came, ChangesTimers, Client, Config, Conn, Event, Front, HasRule, HasTimer, IsConnNumber, IsLaw, IsMachine, IsReached, IsViewed, Machine, MayRestOn, Move, Node, NodePart, OfEach, Part, Place, Rec, Row, Rules, Seen, Setting, TimerKind, armed_step, blank_conn, conn, front_armed, grown, is_change, is_place, machine_step, node_armed, packets_of, part_of, rows_of, seen_step, sent_records, setting, timer_change, timer_kinds, timer_rows, with_leaving}
 use Rattle.lard_law_view.proofs.EachClient.{each-client, of-client}
 use Rattle.lard_base.specs.declared.event.Event.TheVariants as event
-use Rattle.lard_base.specs.declared.place.TimerKind.TheVariants.{Tcp, Offer, Ask, Fetch, Ended}
+use Rattle.lard_base.specs.declared.place.TimerKind.TheVariants.{Tcp, Offer, Ask, Fetch, Ended, Give}
 use Rattle.lard_laws.specs.StepsTimers.{RunsAsKept, TimersChangeInSteps, TimersRunAsKept, armed_at, client_armed}
 use Rattle.lard_law_view.specs.View.{sending}
 use Rattle.lard_law_view.proofs.Acts.{ActsAlone, ActsMany, AreApart, IsPassing, IsStepOf, Moving, step_acts, timers_in}
@@ -137,18 +137,19 @@ told x place kind = fold (seen_step (armed_step place x.c kind)) false x.seen
 abbrev IsTimed : Conn → Type 0
 IsTimed x = (place : Place) → HasTimer place x.c → (kind : TimerKind) → told x place kind ≡ armed_at place x.part kind
 
-each-kind : (P : TimerKind → Type 0) → P Tcp → P Offer → P Ask → P Fetch → P Ended → (kind : TimerKind) → P kind
-each-kind P t o a f e Tcp = t
-each-kind P t o a f e Offer = o
-each-kind P t o a f e Ask = a
-each-kind P t o a f e Fetch = f
-each-kind P t o a f e Ended = e
+each-kind : (P : TimerKind → Type 0) → P Tcp → P Offer → P Ask → P Fetch → P Ended → P Give → (kind : TimerKind) → P kind
+each-kind P t o a f e g Tcp = t
+each-kind P t o a f e g Offer = o
+each-kind P t o a f e g Ask = a
+each-kind P t o a f e g Fetch = f
+each-kind P t o a f e g Ended = e
+each-kind P t o a f e g Give = g
 
 -- no timer runs at the start
 none-runs : (c : ℕ) (place : Place) (kind : TimerKind) → false ≡ armed_at place (blank_conn c).part kind
-none-runs c (Client d) kind = each-kind (λ k. false ≡ armed_at (Client d) (blank_conn c).part k) refl refl refl refl refl kind
-none-runs c Front kind = each-kind (λ k. false ≡ armed_at Front (blank_conn c).part k) refl refl refl refl refl kind
-none-runs c (Node n) kind = each-kind (λ k. false ≡ armed_at (Node n) (blank_conn c).part k) refl refl refl refl refl kind
+none-runs c (Client d) kind = each-kind (λ k. false ≡ armed_at (Client d) (blank_conn c).part k) refl refl refl refl refl refl kind
+none-runs c Front kind = each-kind (λ k. false ≡ armed_at Front (blank_conn c).part k) refl refl refl refl refl refl kind
+none-runs c (Node n) kind = each-kind (λ k. false ≡ armed_at (Node n) (blank_conn c).part k) refl refl refl refl refl refl kind
 
 module _ (x : Conn) (v : Move) (is : IsPlain x v) (own : IsItsOwn x v) where
   -- a move tells its place's timers

@@ -3,11 +3,13 @@ use Rattle.std.proofs.Common.{◌≡◌, ℕ, false, true, List, Ok, subst, Bool
 use Rattle.lard_law_view.specs.Prelude.{Config, Conn, IsNode, IsUntouchedLaw, MayRestOn, OfEach, Setting, Untouched, config_check, conn, file_at, grown, is_row_at, part_of, setting, tale_at, with_leaving}
 use Rattle.lard_law_connections.specs.Kept.{IsKeptByStage}
 use Rattle.lard_law_connections.proofs.KeptRuns.{kept-law}
+use Rattle.lard_law_connections.proofs.LeaversMoves.{SendersLeave}
+use Rattle.lard_law_connections.proofs.LeaversSenders.{senders-leave}
 use Rattle.lard_law_connections.proofs.PolicyCounted.{IsCounted, reached-counted}
 use Rattle.lard_laws.proofs.TagsAgree.{Agreed, tags-name}
 use Rattle.lard_laws.proofs.TagsChoices.{with-there}
 use Rattle.lard_laws.proofs.TagsRuns.{connections-name-nodes, known-of}
-use Rattle.lard_law_view.proofs.Carried.{carried}
+use Rattle.lard_law_view.proofs.Carried.{carried-leaving}
 use Rattle.lard_law_view.proofs.Guarded.{untouched-law, untouched-weaker}
 
 module _ (config : Config) (files : List (List ℕ × List ℕ)) (checked : config_check config ≡ Ok tt) where
@@ -28,25 +30,26 @@ module _ (config : Config) (files : List (List ℕ × List ℕ)) (checked : conf
   abbrev Inv : Conn → Type 0
   Inv x = IsKeptByStage N (file_at files) x
 
-  abbrev Given : Conn → Type 0
-  Given x = Untouched (Agreed N (file_at files)) x
+  -- with what is known of it as long as it is untouched, where these nodes leave
+  abbrev Now : (ℕ → Bool) → Conn → Type 0
+  Now l x = Agreed N (file_at files) x × SendersLeave l x
 
-  -- with what is known of it as long as it is untouched
-  abbrev Now : Conn → Type 0
-  Now x = Agreed N (file_at files) x
+  abbrev Given : (ℕ → Bool) → Conn → Type 0
+  Given l x = Untouched (Now l) x
 
-  going-law : (l : ℕ → Bool) → IsUntouchedLaw (with_leaving (setting config files) l) Given Inv
+  going-law : (l : ℕ → Bool) → IsUntouchedLaw (with_leaving (setting config files) l) (Given l) Inv
   going-law l =
       let k : Setting = with_leaving (setting config files) l in
-      let law = kept-law N Now (tags-name N (file_at files)) k in record {
+      let law = kept-law N k (Now l) (λ x now. (tags-name N (file_at files) x now.0, now.1)) in record {
         begins = law.begins;
-        moves = untouched-weaker k (λ x v. MayRestOn Now x → Inv x → Inv (grown x v)) (λ x v. MayRestOn Given x → (tale_at x).touched ≡ false → Inv x → Inv (grown x v))
+        moves = untouched-weaker k (λ x v. MayRestOn (Now l) x → Inv x → Inv (grown x v)) (λ x v. MayRestOn (Given l) x → (tale_at x).touched ≡ false → Inv x → Inv (grown x v))
             (λ x v moves may untouched h. moves (record { number = may.number; sound = may.sound; given = may.given untouched }) h) law.moves.untouched;
       }
 
   -- each Fetch of a connection goes to a node that is there
   pub each-goes : OfEach config files (Untouched Inv)
-  each-goes = carried config files Given (Untouched Inv) (λ l. untouched-law (with_leaving (setting config files) l) Given Inv (going-law l)) each-agrees
+  each-goes = carried-leaving config files Given (λ l. Untouched Inv) (λ m n e rule is x h. h) (λ l. untouched-law (with_leaving (setting config files) l) (Given l) Inv (going-law l))
+      (λ m r q untouched. (each-agrees m r q untouched, senders-leave config files m r q))
 
   -- ---- where connections are
 

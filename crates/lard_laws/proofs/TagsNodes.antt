@@ -1,8 +1,9 @@
 -- What a node does leaves the last Tag with as many nodes as requests wait for one.
-use Rattle.std.proofs.Common.{◌≡◌, ◌⊎◌, ◌+◌, ℕ, true, List, [], length, Option, Some, None, refl, sym, ap, ◌∙◌, subst, arith, inl, inr, ⊎_elim}
-use Rattle.lard_law_view.specs.Prelude.{Adopt, BackRow, Conn, ControlBlock, EndpointParts, FilesAt, FrontRest, NodeDeed, NodeEnv, NodePart, Seen, Stay, front_rest, goes_on, grown, here, is_row_at, named_paths, node_begins, node_does, node_rests, offer_answer, offered_by, reads_batch, state_of, taken_sent}
+use Rattle.std.proofs.Common.{◌≡◌, ◌⊎◌, ◌+◌, ℕ, true, List, [], length, Option, Some, None, refl, sym, ap, ◌∙◌, subst, arith, inl, inr, ⊎_elim, Bool, ◌||◌}
+use Rattle.std.proofs.lemmas.Bool.{both_ways}
+use Rattle.lard_law_view.specs.Prelude.{Adopt, BackRow, Conn, ControlBlock, EndpointParts, FilesAt, FrontRest, NodeDeed, NodeEnv, NodePart, Seen, Stay, front_rest, goes_on, grown, here, is_ended, is_gone, is_row_at, named_paths, node_begins, node_does, node_rests, offer_answer, offered_by, reads_batch, state_of, taken_sent}
 use Rattle.lard_law_connections.proofs.KeptHere.{IsHere, here-is}
-use Rattle.lard_law_connections.proofs.KeptNodes.{DeedFollows, DeedGoes, IsOfEpoch, MayFollow, StayFollows}
+use Rattle.lard_law_connections.proofs.KeptNodes.{DeedGoes, IsOfEpoch, MayFollow, OfferFollows, StayFollows}
 use Rattle.lard_law_connections.specs.Places.{IsPast}
 use Rattle.lard_law_connections.proofs.PlacesNodeRules.{not-decided}
 use Rattle.lard_law_connections.proofs.PlacesTurns.{IsPlaced}
@@ -11,7 +12,7 @@ use Rattle.lard_law_view.proofs.Parts.{put-each}
 use Rattle.lard_laws.proofs.WaysFrontAnswers.{with-of}
 use Rattle.lard_laws.specs.WaysState.{GoesItsWay, IsAway, SeatWays, StageWays, StayWays, marks_at}
 use Rattle.lard_handoff_back.specs.declared.row.BackConn.TheVariants as back
-use Rattle.lard_handoff_back.specs.declared.table.Adopt.TheVariants.{New}
+use Rattle.lard_handoff_back.specs.declared.table.Adopt.TheVariants.{New, Refuse}
 use Rattle.lard_rules.specs.Node.{Drops, Says, Does}
 
 -- what is known of a connection beside its Tags
@@ -46,6 +47,11 @@ module _ (files : FilesAt) (x : Conn) (facts : Facts files x) (n e : ℕ) (r : F
   none-answered new = ⊎_elim (λ past. past.1.asks) (λ there. absurd (not-decided e p.row new there.0)) away-is.1
 
 -- ---- a rule of a node
+
+-- it has no stay, or one that is over
+abbrev is_over : Option BackRow → Bool
+is_over None = true
+is_over (Some row) = is_ended row.stage || is_gone row.stage
 
 module _ (N : ℕ → Type 0) (files : FilesAt) (x : Conn) (facts : Facts files x) (h : NamesNodes N files x) (n : ℕ) where
   abbrev ours : NodePart
@@ -97,10 +103,15 @@ module _ (N : ℕ → Type 0) (files : FilesAt) (x : Conn) (facts : Facts files 
       (λ (more : s.asks ≡ 0 + 1). absurd (omega (arith, more, none, answered)))
       goes
 
-  pub offered-fit : (env : NodeEnv) (parts : EndpointParts) (a : Adopt) → offer_answer env.epoch ours.row ≡ a
-      → DeedFollows files env.epoch 0 [] (offered_by env parts ours a) → DeedFits (offered_by env parts ours a)
-  offered-fit env parts New new f = begins env.epoch (node_rests env ours (taken_sent env) (goes_on env (state_of (reads_batch env true (node_begins env parts))))).0 new f.0 f.1
+  pub offered-fit : (env : NodeEnv) (parts : EndpointParts) (a : Adopt) → (a ≡ New → offer_answer env.epoch ours.row ≡ New)
+      → OfferFollows files env.epoch a (offered_by env parts ours a) → DeedFits (offered_by env parts ours a)
+  offered-fit env parts New new f = begins env.epoch (node_rests env ours (taken_sent env) (goes_on env (state_of (reads_batch env true (node_begins env parts))))).0 (new refl) f.0 f.1
+  offered-fit env parts Refuse new f = h.fits n
   offered-fit env parts _ new f = tt
+
+  -- without a stay it fits
+  pub over-fits : (q : NodePart) → is_over q.row ≡ true → FitsAt files x.part.front n q
+  over-fits q over e b s r at row stay rest answered = absurd (both_ways (is_over q.row) (ap is_over row) over)
 
   -- ---- its move
 

@@ -1,41 +1,42 @@
 -- Each rule leaves the last Tag as it must be, by what the dispatcher answers, so it is in every run.
-use Rattle.std.proofs.Common.{◌≡◌, ℕ, false, true, List, [], ◌∷◌, Option, Some, None, Ok, refl, sym, ap, ◌∙◌, subst, inl, inr, ⊎_elim}
+use Rattle.std.proofs.Common.{◌≡◌, ℕ, false, true, List, [], ◌∷◌, Option, Some, None, Ok, refl, sym, ◌∙◌, subst, inl, inr, ⊎_elim, Bool}
 use Rattle.std.proofs.lemmas.Bool.{cond_both}
-use Rattle.lard_law_view.specs.Prelude.{Acknowledged, BackRow, ClientRules, Completed, Config, Conn, Content, Event, FilesAt, Fires, Forwarded, FrontRules, HasRule, IsConnNumber, IsNode, IsNodeEnv, IsReached, Machine, Move, NodeEnv, NodeGets, NodePart, NodeRules, Offered, Rules, Seen, Setting, Tagged, Untouched, awaits_ack, config_check, conn, epoch_in, file_at, grown, here, is_gone, machine_start, machine_step, node_rule, node_saying, offer_answer, setting, tale_at, with_leaving, without}
+use Rattle.lard_law_view.specs.Prelude.{Acknowledged, BackRow, ClientRules, Completed, Config, Conn, Content, ControlBlock, Event, FilesAt, Fires, Forwarded, FrontRules, HasRule, IsConnNumber, IsNode, IsNodeEnv, IsReached, Leaves, Machine, Move, NodeEnv, NodeGets, NodePart, NodeRules, Offered, Rules, Seen, Setting, Stay, Tagged, Untouched, awaits_told, back_endpoint, both_of, config_check, conn, epoch_in, file_at, gives_back, goes_back_by, grown, here, kept_back, machine_start, machine_step, may_give_back, node_rule, node_saying, offer_decision, setting, tale_at, told_kind, which_leave, with_leaving, without, work_of}
 use Rattle.lard_law_view.proofs.EachClient.{each-client}
 use Rattle.lard_law_view.proofs.EachFront.{each-front}
-use Rattle.lard_base.proofs.Usable.{usable}
 use Rattle.lard_laws.proofs.AsksFilling.{step-fills}
 use Rattle.lard_laws.proofs.AsksMoving.{Fills}
 use Rattle.lard_law_connections.specs.Kept.{IsKeptByStage, NodeKeepsMessages}
 use Rattle.lard_law_connections.specs.KeptLaws.{AnyNode}
 use Rattle.lard_law_connections.proofs.KeptHere.{here-timer}
 use Rattle.lard_law_connections.proofs.KeptNodes as kept
-use Rattle.lard_law_connections.proofs.KeptNodes.{DeedFollows, DeedGoes}
+use Rattle.lard_law_connections.proofs.KeptNodes.{DeedGoes, OfferFollows}
 use Rattle.lard_law_connections.proofs.KeptRuns.{connections-are-kept}
+use Rattle.lard_law_connections.proofs.LeaversMoves.{SendersLeave, stays-ungiven}
+use Rattle.lard_law_connections.proofs.LeaversSenders.{senders-leave}
 use Rattle.lard_law_connections.proofs.PlacesRuns.{each-placed}
 use Rattle.lard_law_connections.proofs.PolicyCounted.{IsCounted, reached-counted}
 use Rattle.lard_laws.specs.TagsLaws.{ConnectionsNameNodes}
 use Rattle.lard_laws.specs.Tags.{NamesNodes}
 use Rattle.lard_laws.proofs.TagsChoices.{Names, step-names}
 use Rattle.lard_laws.proofs.TagsFronts as fronts_of
-use Rattle.lard_laws.proofs.TagsNodes.{DeedFits, Facts, goes-fit, node-move, offered-fit}
+use Rattle.lard_laws.proofs.TagsNodes.{DeedFits, Facts, goes-fit, node-move, offered-fit, over-fits}
 use Rattle.lard_law_view.specs.View as view
 use Rattle.lard_law_view.proofs.After.{IsAfter, step-after}
-use Rattle.lard_law_view.proofs.Carried.{IsOn, carried-keep, goes-on, gone}
+use Rattle.lard_law_view.proofs.Carried.{IsOn, carried-keep, goes-leaving, gone}
 use Rattle.lard_law_view.proofs.Guarded.{untouched-before}
 use Rattle.lard_law_view.proofs.Runs.{start-blank}
 use Rattle.lard_laws.proofs.WaysRuns.{each-guarded}
-use Rattle.lard_handoff_back.specs.declared.row.BackConn.TheVariants as back
 use Rattle.lard_history.proofs.Each.{Each}
 use Rattle.lard_law_view.proofs.EachNode.{NodeComes, each-node}
+use Rattle.lard_rules.proofs.NodeCases.{decision-new}
 use Rattle.lard_rules.specs.Node as node
-use Rattle.lard_base.specs.declared.place.TimerKind.TheVariants as kind
 
 -- what is known of a connection beside its Tags
-pub record Known (files : FilesAt) (x : Conn) : Type 0 where
-  pub facts : Facts files x
-  pub kept : IsKeptByStage AnyNode files x
+pub record Known (k : Setting) (x : Conn) : Type 0 where
+  pub facts : Facts k.files x
+  pub kept : IsKeptByStage AnyNode k.files x
+  pub leave : SendersLeave k.leaving x
 
 any : (nodes : List ℕ) → Each AnyNode nodes
 any [] = tt
@@ -43,7 +44,7 @@ any (n ∷ ns) = (tt, any ns)
 
 module _ (N : ℕ → Type 0) (k : Setting) where
   abbrev Moves : Conn → Move → Type 0
-  Moves x v = Known k.files x → Fills x (grown x v) → Names N x (grown x v) → NamesNodes N k.files x → NamesNodes N k.files (grown x v)
+  Moves x v = Known k x → Fills x (grown x v) → Names N x (grown x v) → NamesNodes N k.files x → NamesNodes N k.files (grown x v)
 
   clients : ClientRules k Moves
   clients = each-client k Moves (record {
@@ -55,7 +56,7 @@ module _ (N : ℕ → Type 0) (k : Setting) where
   fronts = each-front k Moves (λ x env heads g is comes known fills names h. fronts_of.rule-fits N k.files x known.facts h env heads g comes fills names)
 
   -- a rule of a node
-  module _ (x : Conn) (n epoch : ℕ) (env : NodeEnv) (is : IsNodeEnv k x.c n epoch env) (known : Known k.files x) (h : NamesNodes N k.files x) where
+  module _ (x : Conn) (n epoch : ℕ) (env : NodeEnv) (is : IsNodeEnv k x.c n epoch env) (known : Known k x) (h : NamesNodes N k.files x) where
     abbrev p : NodePart
     p = x.part.nodes n
 
@@ -76,22 +77,28 @@ module _ (N : ℕ → Type 0) (k : Setting) where
     goes d rule = goes-fit N k.files x known.facts h n env.epoch d (of-run (λ (f : FilesAt). DeedGoes f env.epoch (here env.epoch p) d) rule)
 
     -- where its end is acknowledged nothing is here
-    none-here : (o : Option BackRow) (e : ℕ) (b : _) → node.gone o ≡ Some (record { stage = back.Here b; epoch = record { 0 = e } }) → ⊥
-    none-here None e b is = cc
-    none-here (Some row) e b is = let no : true ≡ false = ap (λ (o : Option BackRow). elim o [ None ↦ true | Some row ↦ is_gone row.stage ]) is in cc
+    gone-fits : (returns : Bool) (o : Option BackRow) → Fits (node.Does (record p { row = node.gone o; kept = without (told_kind returns) 0 p.kept }, node_saying []))
+    gone-fits returns None = over-fits N k.files x known.facts h n (record p { row = None; kept = without (told_kind returns) 0 p.kept }) refl
+    gone-fits returns (Some it) = over-fits N k.files x known.facts h n (record p { row = node.gone (Some it); kept = without (told_kind returns) 0 p.kept }) refl
+
+    -- nor where it goes back
+    leaves-fit : (o : Option (ControlBlock × Stay)) → Fits (goes_back_by env p o)
+    leaves-fit None = tt
+    leaves-fit (Some y) = cond_both (may_give_back env (work_of y.0 y.1)) (gives_back env p [] (work_of y.0 y.1)) node.Drops Fits (λ t. over-fits N k.files x known.facts h n (kept_back env p (work_of y.0 y.1)) refl) (λ t. tt)
 
     rule-fits : (heads : List Seen) (g : NodeGets) → NodeComes x n epoch heads g → Fits (node_rule env p g)
-    rule-fits heads (Offered parts) comes = offered-fit N k.files x known.facts h n env parts (offer_answer env.epoch p.row) refl
-        (of-run (λ (f : FilesAt). DeedFollows f env.epoch 0 [] (node_rule env p (Offered parts))) (λ g. (kept.offered-keeps AnyNode env p g parts).1))
+    rule-fits heads (Offered parts) comes = offered-fit N k.files x known.facts h n env parts (offer_decision env.leaving env.epoch p.row p.beside) (λ new. (decision-new env.leaving env.epoch p.row p.beside new).0)
+        (of-run (λ (f : FilesAt). OfferFollows f env.epoch (offer_decision env.leaving env.epoch p.row p.beside) (node_rule env p (Offered parts))) (λ g. (kept.offered-keeps AnyNode env p g parts (λ remains. stays-ungiven k.leaving x known.leave n (sym is.leaves ∙ remains))).1))
     rule-fits heads (Forwarded given) comes = goes (node_rule env p (Forwarded given)) (λ g. (kept.forwarded-keeps AnyNode env p g given).1)
     rule-fits heads (Tagged number tags) comes = goes (node_rule env p (Tagged number tags)) (λ g. (kept.tagged-keeps AnyNode env p g number tags (λ y at same. any tags)).1)
     rule-fits heads (Content from r) comes = goes (node_rule env p (Content from r)) (λ g. (kept.content-keeps AnyNode env p g from r).1)
-    rule-fits heads Acknowledged comes =
-        let q : NodePart = record p { row = node.gone p.row; kept = without kind.Ended 0 p.kept } in
-        cond_both (awaits_ack env.epoch p.row) (node.Does (q, node_saying [])) node.Drops Fits (λ t e b s r at row stay rest answered. absurd (none-here p.row e b row)) (λ t. tt)
+    rule-fits heads (Acknowledged returns) comes =
+        let q : NodePart = record p { row = node.gone p.row; kept = without (told_kind returns) 0 p.kept } in
+        cond_both (awaits_told returns env p) (node.Does (q, node_saying [])) node.Drops Fits (λ t. gone-fits returns p.row) (λ t. tt)
     rule-fits heads (Completed r path) comes = goes (node_rule env p (Completed r path)) (λ g. (kept.read-keeps AnyNode env p g r).1)
     rule-fits heads Fires comes = let now : env.epoch ≡ epoch_in p = is.epoch_is ∙ comes.epoch_is in
         goes (node_rule env p Fires) (λ g. subst (λ o. DeedGoes env.serve.files env.epoch o (node_rule env p Fires)) (here-timer env.epoch p now) (kept.timer-keeps AnyNode env p g now).1)
+    rule-fits heads Leaves comes = leaves-fit (both_of (back_endpoint p.row) p.stay)
 
   nodes : NodeRules k Moves
   nodes = each-node k Moves (record {
@@ -116,19 +123,25 @@ module _ (config : Config) (files : List (List ℕ × List ℕ)) (checked : conf
   abbrev Inv : Conn → Type 0
   Inv x = Untouched (NamesNodes N (file_at files)) x
 
-  abbrev All : Conn → Move → Type 0
-  All x v = (IsConnNumber x.c × Moves N (setting config files) x v) × Fills x (grown x v) × Names N x (grown x v)
+  -- the rules where these leave
+  abbrev Goes : (ℕ → Bool) → Conn → Move → Type 0
+  Goes l = Moves N (with_leaving (setting config files) l)
 
-  filling : (x y : Conn) → Fills x y → Names N x y → view.GoesBy (λ x v. IsConnNumber x.c × Moves N (setting config files) x v) x y → view.GoesBy All x y
-  filling x y fills names goes = ⊎_elim
-      (λ (same : y ≡ x). inl same)
-      (λ (k : (v : Move) × (IsConnNumber x.c × Moves N (setting config files) x v) × (y ≡ grown x v)). inr (k.0, (k.1, subst (Fills x) k.2 fills, subst (Names N x) k.2 names), k.2))
-      goes
+  module _ (l : ℕ → Bool) where
+    abbrev All : Conn → Move → Type 0
+    All x v = (IsConnNumber x.c × Goes l x v) × Fills x (grown x v) × Names N x (grown x v)
 
-  pub known-of : (m : Machine) → IsReached config files m → (q : ℕ) → (tale_at (conn m q)).touched ≡ false → Known (file_at files) (conn m q)
+    filling : (x y : Conn) → Fills x y → Names N x y → view.GoesBy (λ x v. IsConnNumber x.c × Goes l x v) x y → view.GoesBy All x y
+    filling x y fills names goes = ⊎_elim
+        (λ (same : y ≡ x). inl same)
+        (λ (k : (v : Move) × (IsConnNumber x.c × Goes l x v) × (y ≡ grown x v)). inr (k.0, (k.1, subst (Fills x) k.2 fills, subst (Names N x) k.2 names), k.2))
+        goes
+
+  pub known-of : (m : Machine) → IsReached config files m → (q : ℕ) → (tale_at (conn m q)).touched ≡ false → Known (with_leaving (setting config files) (which_leave m)) (conn m q)
   known-of m r q untouched = record {
-    facts = record { placed = each-placed config files m r q; ways = (each-guarded config files (usable config checked).stream m r q).0 untouched };
+    facts = record { placed = each-placed config files checked m r q; ways = (each-guarded config files checked m r q).0 untouched };
     kept = connections-are-kept config files m r q;
+    leave = senders-leave config files m r q;
   }
 
   abbrev IsKnownOf : Machine → Type 0
@@ -144,11 +157,12 @@ module _ (config : Config) (files : List (List ℕ × List ℕ)) (checked : conf
     names : Names N (conn m q) (conn n q)
     names = subst (λ (c : Config). Names (IsNode c.nodes) (conn m q) (conn n q)) counted.config_is (step-names m n counted.sound e after is on.view.told q)
 
-    goes-so : view.GoesBy All (conn m q) (conn n q)
-    goes-so = filling (conn m q) (conn n q) (step-fills m n e after is on.view.told q) names (goes-on config files (Moves N (setting config files)) (λ l. rules N (with_leaving (setting config files) l)) m n e on rule is q)
+    goes-so : view.GoesBy (All (which_leave m)) (conn m q) (conn n q)
+    goes-so = filling (which_leave m) (conn m q) (conn n q) (step-fills m n e after is on.view.told q) names
+        (goes-leaving config files Goes (λ l. rules N (with_leaving (setting config files) l)) m n e on rule is q)
 
     stays : Inv (conn n q)
-    stays = gone Inv All (conn m q) (conn n q) (known q)
+    stays = gone Inv (All (which_leave m)) (conn m q) (conn n q) (known q)
         (λ v h untouched. let before : (tale_at (conn m q)).touched ≡ false = untouched-before (conn m q) v untouched in h.0.1 (known-of m on.reached q before) h.1 h.2 (known q before)) goes-so
 
   start-named : IsKnownOf (machine_start config files)

@@ -1,7 +1,7 @@
 -- Each content that is served was there before.
 use Rattle.std.proofs.Common.{ap, ◌∙◌, append_assoc, ◌≡◌, ℕ, ◌+◌, ◌==◌, true, List, [], ◌∷◌, ◌++◌, Option, Some, None, Ok, refl, sym, subst, inl}
 use Rattle.std.proofs.lemmas.Bool.{cond_both}
-use Rattle.lard_law_view.specs.Prelude.{BackRow, Came, Completed, Content, ControlBlock, Ending, EndpointParts, Entry, Has, Node, NodeDeed, NodeEnv, NodeGets, NodePart, NodeTurn, Place, Progress, Rec, Row, Seen, Service, Stay, Turn, Via, Work, after_timer, again_sent, came_for, come_progress, decoded_message, goes_on, gone, kept_after, node_begins, node_rule, on_segment, read_progress, reads_batch, serving, serving_ready_of, serving_settled, spoken, state_of, tagged, taken_sent, timed, turn_by, with_work, without, work_of}
+use Rattle.lard_law_view.specs.Prelude.{BackRow, Came, Completed, Content, ControlBlock, Ending, EndpointParts, Entry, Has, Node, NodeDeed, NodeEnv, NodeGets, NodePart, NodeTurn, Place, Progress, Rec, Row, Seen, Service, Stay, Turn, Via, Work, after_timer, again_sent, came_for, come_progress, decoded_message, gives_back, goes_on, gone, kept_after, node_begins, node_rule, on_segment, read_progress, reads_batch, serving, serving_ready_of, serving_settled, spoken, state_of, tagged, taken_sent, timed, turn_by, with_work, without, work_of}
 use Rattle.lard_base.specs.declared.place.TimerKind.TheVariants as timer
 use Rattle.lard_base.specs.declared.place.Via.TheVariants as via
 use Rattle.lard_law_connections.proofs.AwaitsNodes.{HasServed, settled-served, spoken-served}
@@ -13,7 +13,7 @@ use Rattle.lard_history.proofs.Seeing.{has-before}
 use Rattle.lard_journal.specs.declared.rec.Rec.TheVariants as rec
 use Rattle.lard_message.specs.declared.message.Body.TheVariants as body
 use Rattle.lard_rules.specs.declared.stay.Progress.TheVariants as progress
-use Rattle.lard_rules.proofs.NodeCases.{IsHereWith, IsInItsEpoch, KeptByNode, node-keeps}
+use Rattle.lard_rules.proofs.NodeCases.{IsHereWith, IsOfItsEpoch, KeptByNode, Turned, node-keeps}
 use Rattle.lard_rules.specs.Node.{Drops, Says, Does}
 use Rattle.lard_rules.specs.declared.places.Ending.TheVariants as ending
 
@@ -128,6 +128,10 @@ module _ (env : NodeEnv) (past : List Seen) where
   works-there p before w h took =
       ends-there p before w (serving_settled env.serve w.service) (settled-served env.serve w.service) (settled-is env.serve w.service).notes h.batch h.notes.0 (took-before (serving_settled env.serve w.service).1.notes took)
 
+  -- it goes back, and nothing of it is kept
+  back-there : (p : NodePart) (before : List (Place × List ℕ)) (w : Work) → Goes w → TookIn n c past env.epoch → DeedThere n c past (gives_back env p before w)
+  back-there p before w h took = record { stay = tt; row = took-before w.service.notes took; notes = h.notes.0 }
+
   fresh : (b : ControlBlock) (s : Stay) → AreBacked B (s.served + 1) s.batch → Goes (work_of b s)
   fresh b s h = record { batch = h; notes = (tt, tt) }
 
@@ -158,8 +162,10 @@ module _ (env : NodeEnv) (past : List Seen) where
     IsThere d = DeedThere n c past d
 
     -- a turn of a stay that is here
-    turns : (b : ControlBlock) (s : Stay) → IsHereWith env.epoch p b s → (q : NodePart) (w : Work) → Goes w → IsThere (with_work env q [] (goes_on env w))
-    turns b s at q w h = works-there q [] (goes_on env w) (goes w h) (took-here b s at)
+    turns : (b : ControlBlock) (s : Stay) → IsHereWith env.epoch p b s → (q : NodePart) (w : Work) → Goes w → Turned IsThere env q [] (goes_on env w)
+    turns b s at q w h =
+        let took = took-here b s at in
+        (λ rests. works-there q [] (goes_on env w) (goes w h) took, λ back. back-there q [] (goes_on env w) (goes w h) took)
 
     come-backed : (from r : ℕ) → CameFrom from r → TookIn n c past env.epoch → (x : Progress) → IsBacked B r x → IsBacked B r (come_progress from x)
     come-backed from r m took progress.Named k = tt
@@ -204,15 +210,17 @@ module _ (env : NodeEnv) (past : List Seen) where
           (came-backed B Quiet (λ ns r h. tt) (come_progress from) r (work_of b s) (come-backed from r m (took-here b s at)) (fresh b s (batch-here b s at)));
       reads = λ r path b s m at. turns b s at p (came_for read_progress r (work_of b s))
           (came-backed B Quiet (λ ns r h. tt) read_progress r (work_of b s) (job-backed r (m (took-here b s at))) (fresh b s (batch-here b s at)));
-      begins = λ parts m new. begins parts;
+      begins = λ parts m new may. begins parts;
       takes_again = λ parts m again. tt;
+      refuses = λ parts m is. record { stay = held.stay; row = λ later k. row-more n c past later p.row held.row; notes = tt };
       fires = λ b s m at.
           let v : Service = serving (after_timer b) s.served [] in
           let before = serving_ready_of env.serve (after_timer b) (timed b) in
           ends-there p (again_sent p) (work_of (after_timer b) s) (spoken env.serve v before) (spoken-served env.serve v before) refl (batch-here b s at) tt (took-before [] (took-here b s at));
       resends = λ m none. tt;
-      ends = λ m told. record { stay = held.stay; row = λ later k. gone-took later p.row held.row; notes = tt };
+      ends = λ back m told was. record { stay = held.stay; row = λ later k. gone-took later p.row held.row; notes = tt };
+      leaves = λ b s m at back. back-there p [] (work_of b s) (fresh b s (batch-here b s at)) (took-here b s at);
     }
 
-    pub rule-there : (g : NodeGets) → IsInItsEpoch env p g → MayCome g → IsThere (node_rule env p g)
+    pub rule-there : (g : NodeGets) → IsOfItsEpoch env p g → MayCome g → IsThere (node_rule env p g)
     rule-there g at m = node-keeps env p MayCome IsThere rules_there g at m

@@ -1,12 +1,11 @@
 -- So it is in every run: each content that is served was there before.
 use Rattle.std.proofs.Common.{◌≡◌, ℕ, Bool, true, false, cond, List, [], ◌∷◌, ◌++◌, map, Option, Some, None, Ok, is_some, refl, sym, ap, ◌∙◌, subst, inl, inr, ⊎_elim, append_assoc, append-nil}
-use Rattle.lard_law_view.specs.Prelude.{Came, Client, ClientRules, Completed, Config, Conn, Content, EachRow, Front, FrontRules, Has, IsLaw, IsNodeEnv, IsReached, Letter, Machine, MayRestOn, Move, Node, NodeEnv, NodeGets, NodePart, NodeRules, OfEach, Place, Rec, Row, Rules, Seen, Setting, client_begins, conn, decoded_message, front_does, front_rule, grown, named_records, node_does, nothing_said, own, packet_seen, plain, reads_first, rows_of, seen_in, setting, stands, timer_rows, whose, with_leaving}
+use Rattle.lard_law_view.specs.Prelude.{Came, Client, ClientRules, Completed, Config, Conn, Content, EachRow, Front, FrontRules, Has, IsLaw, IsNodeEnv, IsReached, Letter, Machine, MayRestOn, Move, Node, NodeEnv, NodeGets, NodePart, NodeRules, OfEach, Place, Rec, Row, Rules, Seen, Setting, client_begins, conn, decoded_message, front_does, front_rule, grown, named_records, node_does, nothing_said, own, packet_seen, plain, reads_first, rows_of, seen_in, setting, stands, whose, with_leaving}
 use Rattle.lard_law_view.proofs.EachFront.{each-front, of-front}
 use Rattle.lard_law_view.proofs.EachClient.{client_goes, each-client, of-client}
 use Rattle.lard_law_view.proofs.EachNode.{Answers, Aside, Brings, NodeComes, Queues, aside_said, aside_seen, each-node, node_goes}
 use Rattle.lard_law_view.proofs.NodeHeads.{of-aside, of-heads}
-use Rattle.lard_rules.proofs.NodeCases.{IsInItsEpoch}
-use Rattle.lard_law_view.specs.View.{sending}
+use Rattle.lard_rules.proofs.NodeCases.{IsInItsEpoch, IsOfItsEpoch}
 use Rattle.lard_law_view.proofs.Carried.{carried}
 use Rattle.lard_law_view.proofs.Fine.{IsFine, IsItsOwn, fine}
 use Rattle.lard_law_view.proofs.Guarded.{both, weaker}
@@ -19,13 +18,14 @@ use Rattle.lard_laws.proofs.WaysBacking.{IsNoted}
 use Rattle.lard_rules.specs.Front as front
 use Rattle.lard_history.proofs.Each.{Each, Each-append, Each-weaker}
 use Rattle.lard_history.proofs.Lifting.{each_row-append}
-use Rattle.lard_history.proofs.Seeing.{has-before, has-behind}
+use Rattle.lard_history.proofs.Seeing.{has-behind}
 use Rattle.lard_journal.specs.declared.rec.Rec.TheVariants as rec
 use Rattle.lard_message.specs.declared.message.Body.TheVariants as body
 use Rattle.lard_rules.specs.Node as node
 use Rattle.lard_law_view.proofs.OfKinds.{rest_of, rest-outer, rows-are}
 use Rattle.lard_law_view.proofs.RecordKinds.{IsOuter}
 use Rattle.lard_law_view.proofs.Deeds.{node-heads, node-place}
+use Rattle.lard_law_connections.proofs.NotedRows.{noted-row}
 
 -- ---- rows behind what was seen
 
@@ -89,19 +89,6 @@ Owes x v = IsItsOwn x v → HoldsThere x → HoldsThere (grown x v) × EachRow (
 
 more-there : (x : Conn) (v : Move) → HoldsThere x → (n : ℕ) → PartThere n x.c (x.seen ++ seen_in x v) (x.part.nodes n)
 more-there x v h n = part-more n x.c x.seen (seen_in x v) (x.part.nodes n) (h n)
-
--- a note is among the rows
-has-row : (r : Rec) (rs : List Rec) → Has r rs → Has (Row r) (map Row rs)
-has-row r [] h = absurd h
-has-row r (y ∷ ys) h = ⊎_elim (λ (e : y ≡ r). inl (ap (λ (z : Rec). Row z) e)) (λ (k : Has r ys). inr (has-row r ys k)) h
-
-pub noted-row : (x : Conn) (v : Move) (r : Rec) → Has r v.said.notes → Has (Row r) (map Row (rows_of x v))
-noted-row x v r h =
-    let S : List Rec = map (sending v.place) v.said.segments in
-    let M : List Rec = map (sending v.place) v.said.messages in
-    has-row r (rows_of x v)
-    (has-before r (v.said.notes ++ S ++ v.said.gave ++ M) (timer_rows v.place x.c x.part v.part)
-    (has-before r (v.said.notes ++ S ++ v.said.gave) M (has-before r (v.said.notes ++ S) v.said.gave (has-before r v.said.notes S h))))
 
 -- ---- a node
 
@@ -244,7 +231,7 @@ module _ (k : Setting) where
   may-come x n epoch env is heads (Completed r path) comes other = absurd other
   may-come x n epoch env is heads _ comes other = tt
 
-  rule-owes : (x : Conn) (n epoch : ℕ) (env : NodeEnv) → IsNodeEnv k x.c n epoch env → (heads : List Seen) (g : NodeGets) → IsInItsEpoch env (x.part.nodes n) g → NodeComes x n epoch heads g → IsNoJob g
+  rule-owes : (x : Conn) (n epoch : ℕ) (env : NodeEnv) → IsNodeEnv k x.c n epoch env → (heads : List Seen) (g : NodeGets) → IsOfItsEpoch env (x.part.nodes n) g → NodeComes x n epoch heads g → IsNoJob g
       → Owes x (node_does x n heads (node.node_rule env (x.part.nodes n) g))
   rule-owes x n epoch env is heads g at comes other = owes x n epoch env is heads (node.node_rule env (x.part.nodes n) g)
       (λ h. rule-there env (x.seen ++ heads) (x.part.nodes n) h g at (may-come x n epoch env is heads g comes other))
@@ -260,7 +247,7 @@ module _ (k : Setting) where
       (λ g. rule-there env past (x.part.nodes n) g (Completed r path) tt (λ took. record { epoch = env.epoch; path = path; read = was-read x n epoch r path env is took }))
       (part-more n x.c x.seen (Row job ∷ []) (x.part.nodes n) (h n)))
       comes its h
-  node-goes-on x n epoch env heads g is at comes its h = rule-owes x n epoch env is heads g at comes tt its h
+  node-goes-on x n epoch env heads g is at comes its h = rule-owes x n epoch env is heads g at.0 comes tt its h
 
   -- what a node does for another one
   aside-owes : (x : Conn) (n : ℕ) (a : Aside) → Owes x (stands x (Node n) (aside_seen n a) (aside_said k n x.c a))

@@ -3,8 +3,8 @@ use Rattle.std.proofs.Common.{◌≡◌, ◌≤◌, ◌<◌, ◌+◌, ◌^◌, �
 use Rattle.std.specs.List.{slice_get}
 use Rattle.std.proofs.lemmas.Bool.{and_from, and_parts}
 use Rattle.std.proofs.lemmas.List.{length-append, length-map, map-append, nil_from_length}
-use Rattle.lard_law_view.specs.Prelude.{Ask, Conn, Did, Epoch, FilesAt, Final, Front, FrontConn, FrontDeed, FrontEnv, FrontPart, FrontRest, FrontRow, IsOnceAway, IsPrefix, LaterChoice, Move, Node, NodePart, Part, Rec, Seen, Stay, ack_sent, assigned_notes, assignments_taken, assigns, by_front, front_does, front_ends, front_rest, front_saying, is_row_at, is_with, named_paths, next_epoch, nothing_said, over_note, tag_sent, taken_by, tale_at}
-use Rattle.lard_law_connections.specs.Places.{IsDecided, Sits, StageSits, owning}
+use Rattle.lard_law_view.specs.Prelude.{Ask, Conn, Did, Epoch, FilesAt, Final, Front, FrontConn, FrontDeed, FrontEnv, FrontPart, FrontRest, FrontRow, IsPrefix, LaterChoice, Move, Node, NodePart, Part, Rec, Seen, Stay, ack_sent, assigned_notes, assignments_taken, assigns, by_front, front_does, front_ends, front_rest, front_saying, is_row_at, is_with, named_paths, next_epoch, nothing_said, over_note, tag_sent, taken_by, tale_at}
+use Rattle.lard_law_connections.specs.Places.{IsDecided, IsEarlyEpoch, Sits, StageSits, owning}
 use Rattle.lard_law_connections.proofs.PlacesTurns.{IsPlaced, early-at}
 use Rattle.lard_laws.specs.WaysState.{AskIs, FrontSaysWays, IsAtHome, IsAway, IsBy, LetterWays, SeatWays, StageWays, StayAsks, StayWays, given_to, marks_at}
 use Rattle.lard_laws.specs.WaysUnder.{Assigned}
@@ -82,7 +82,7 @@ module _ (x : Conn) where
     pub found : x.part.front.row ≡ Some row
     pub away : (fs : FilesAt) (k : WayMarks) (q : Part) → q.front.row ≡ Some row → (StageWays fs k q row.epoch.0 row.stage → IsAway fs k (front_rest q.front.rest) n row.epoch.0 (q.nodes n)) × (IsAway fs k (front_rest q.front.rest) n row.epoch.0 (q.nodes n) → StageWays fs k q row.epoch.0 row.stage)
     pub same : row.epoch.0 ≡ epoch
-    pub early : IsOnceAway row.epoch.0
+    pub early : IsEarlyEpoch row.epoch.0
 
   pub with-of : (n epoch : ℕ) → IsPlaced x → is_row_at n epoch x.part.front.row ≡ true → IsWith n epoch
   with-of n epoch placed at = go x.part.front.row refl at placed.sits where
@@ -99,7 +99,7 @@ module _ (x : Conn) where
             (λ h. subst (StageWays fs k q row.epoch.0) (sym at) (subst (λ (j : ℕ). IsAway fs k (front_rest q.front.rest) j row.epoch.0 (q.nodes j)) (sym mine) h)),
           );
           same = sym sits.1 ∙ when;
-          early = early-at x placed row found (stage.Offering i f) at;
+          early = early-at x placed row found;
         }
     on row found (stage.Moved i f) at sits c =
         let t = and_parts (i == n) (f.0 == epoch) c in
@@ -113,7 +113,7 @@ module _ (x : Conn) where
             (λ h. subst (StageWays fs k q row.epoch.0) (sym at) (subst (λ (j : ℕ). IsAway fs k (front_rest q.front.rest) j row.epoch.0 (q.nodes j)) (sym mine) h)),
           );
           same = sym sits.1 ∙ when;
-          early = early-at x placed row found (stage.Moved i f) at;
+          early = early-at x placed row found;
         }
     on row found (stage.Held b) at sits c = let z : false ≡ true = c in absurd (let f : ⊥ = cc in f)
     on row found (stage.Waiting b) at sits c = let z : false ≡ true = c in absurd (let f : ⊥ = cc in f)

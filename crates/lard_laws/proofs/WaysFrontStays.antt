@@ -1,7 +1,7 @@
 -- What the front end does leaves a connection on its way.
 use Rattle.std.proofs.Common.{◌≡◌, ◌≤◌, ◌+◌, ◌^◌, ℕ, Bool, true, false, cond, inr, ⊎_elim, List, [], ◌∷◌, ◌++◌, map, length, take, Option, Some, None, refl, sym, ap, ◌∙◌, subst, arith, append-nil}
 use Rattle.std.proofs.lemmas.List.{map-append}
-use Rattle.lard_law_view.specs.Prelude.{Ask, Call, Client, Conn, ControlBlock, Ending, EndpointParts, Epoch, FilesAt, FirstChoice, Front, FrontConn, FrontDeed, FrontEnv, FrontGets, FrontPart, FrontRest, FrontRow, IsConnNumber, IsOnceHere, IsFrontEnv, IsPrefix, IsStream, IsWord, MayMove, Node, Place, Reading, Said, SaysAnswers, Seen, Serves, Service, Setting, Station, Stream, Talk, Turn, Verdict, adopted, after_timer, back_notes, back_part, back_rest, batch_of, by_front, forwarded, front_begun, front_does, front_fired, front_reads, front_rest, front_rests, front_rule, front_saying, given_sent, holds, is_row_at, last_words, leaves_by, may_freeze, on_segment, parts_of, placed, returned_row, sent_of, serving, serving_settled, spoken, stage_after, tale_at, timed, tombstone, turn_here, verdicts, with_front}
+use Rattle.lard_law_view.specs.Prelude.{Ask, Call, Client, Conn, ControlBlock, Ending, EndpointParts, Epoch, FilesAt, FirstChoice, Front, FrontConn, FrontDeed, FrontEnv, FrontGets, FrontPart, FrontRest, FrontRow, IsConnNumber, IsFrontEnv, IsPrefix, IsStream, IsWord, MayMove, Node, Place, Reading, Said, SaysAnswers, Seen, Serves, Service, Setting, Station, Stream, Talk, Turn, Verdict, adopted, after_timer, back_notes, back_part, back_rest, batch_of, by_front, forwarded, front_begun, front_does, front_fired, front_reads, front_rest, front_rests, front_rule, front_saying, given_sent, holds, is_row_at, last_words, leaves_by, may_freeze, on_segment, parts_of, placed, returned_row, sent_of, serving, serving_settled, spoken, stage_after, tale_at, timed, tombstone, turn_here, verdicts, with_front}
 use Rattle.lard_law_connections.specs.BytesAgreement.{FrontHolds, FrontWaits, IsOpen, IsTruthful, SeatAgrees, StageAgrees}
 use Rattle.lard_law_connections.specs.BytesKeeping.{IsFrontTalk}
 use Rattle.lard_law_connections.proofs.BytesClientMoves.{has-fair, open-at}
@@ -14,7 +14,7 @@ use Rattle.lard_law_connections.proofs.BytesReading.{batch-read}
 use Rattle.lard_law_connections.proofs.BytesReturns.{refused-offering, refused-parts}
 use Rattle.lard_law_connections.proofs.BytesServing.{So}
 use Rattle.lard_law_connections.specs.BytesTurning.{CountsResponses}
-use Rattle.lard_law_connections.specs.Places.{ArePast, IsDecided, IsOffered, IsPast, Offers, Sits, StageSits, owning}
+use Rattle.lard_law_connections.specs.Places.{ArePast, IsDecided, IsEarlyEpoch, IsOffered, IsPast, Offers, Sits, StageSits, owning}
 use Rattle.lard_law_connections.proofs.PlacesFrontMessages.{IsRefusedThere, no-give, refused-past, refused-there}
 use Rattle.lard_law_connections.proofs.PlacesGrowing.{past-later}
 use Rattle.lard_law_connections.proofs.PlacesLoops.{settled-is, spoken-to}
@@ -89,7 +89,7 @@ module _ (k : Setting) (small : k.stream ≤ 2 ^ 30) (x : Conn) (truth : IsTruth
   Came w target = IsConnNumber x.c → IsPlaced x → GoesItsWay files x → Looked w target
 
   -- where the front end has it, its epoch is the latest
-  here-latest : (row : FrontRow) (st : FrontConn) → IsInStage p row st → ((i e : ℕ) → Offers i e st → ⊥) → IsOnceHere row.epoch.0
+  here-latest : (row : FrontRow) (st : FrontConn) → IsInStage p row st → ((i e : ℕ) → Offers i e st → ⊥) → IsEarlyEpoch row.epoch.0
       → ArePast row.epoch.0 x.part.nodes → IsLatest env x row
   here-latest row st at none early past = record {
     small = omega (arith, early);
@@ -273,7 +273,7 @@ module _ (k : Setting) (small : k.stream ≤ 2 ^ 30) (x : Conn) (truth : IsTruth
         hands = λ row b w path choice at came is help g.
             let looked : Looked w (Some path) = came help.number help.placed g in
             handed-makes env x looked.behind row w path choice (looked.frozen path refl) heads (number help.number)
-            (here-latest row (stage.Held b) at (λ i e h. h) (early-at x help.placed row at.0 (stage.Held b) at.1)
+            (here-latest row (stage.Held b) at (λ i e h. h) (early-at x help.placed row at.0)
             (sits-at row (stage.Held b) at help.placed).1.1) help g;
         waits = λ row b w path at came is help g. read-waits p row (front_rest p.rest) w path (came help.number help.placed g) help g;
         stays = λ row b at help g.
@@ -416,7 +416,7 @@ module _ (k : Setting) (small : k.stream ≤ 2 ^ 30) (x : Conn) (truth : IsTruth
         let next : BeginsWithRequest files b.recv.unread path = subst (WaitsForNext files b.recv.unread) is_target seat.1 in
         handed-makes env x m row (serving b count []) path choice (frozen-is m o.tale.wrote (serving b count []) path l.out l.vs alone fh.1 next
         (start-looks b count fh.0.holds.counted seat.0)) heads (number help.number)
-        (here-latest row (stage.Waiting b) at (λ i e h. h) (early-at x help.placed row at.0 (stage.Waiting b) at.1)
+        (here-latest row (stage.Waiting b) at (λ i e h. h) (early-at x help.placed row at.0)
         (sits-at row (stage.Waiting b) at help.placed).1.1) help g
 
   -- ---- it comes back

@@ -1,6 +1,7 @@
 -- The paths of each Ask go on from those that were assigned, in every run.
-use Rattle.std.proofs.Common.{◌≡◌, ◌≤◌, ◌^◌, ℕ, false, List, [], Some, None, ap, ◌∙◌, sym, subst}
-use Rattle.lard_law_view.specs.Prelude.{Config, Conn, EachRow, FilesAt, Front, Guarded, IsGuardedLaw, IsReached, Machine, MayRestOn, Move, Node, OfEach, Place, Rec, Seen, Setting, Tale, Untouched, WhileUntouched, conn, file_at, grown, is_touched, own, plain, seen_in, setting, tale_at, tale_of, whose, with_leaving}
+use Rattle.std.proofs.Common.{◌≡◌, ◌≤◌, ◌^◌, ℕ, false, List, [], Some, None, Ok, ap, ◌∙◌, sym, subst}
+use Rattle.lard_base.proofs.Usable.{usable}
+use Rattle.lard_law_view.specs.Prelude.{Config, Conn, EachRow, FilesAt, Front, Guarded, IsGuardedLaw, IsReached, Machine, MayRestOn, Move, Node, OfEach, Place, Rec, Seen, Setting, Tale, Untouched, WhileUntouched, config_check, conn, file_at, grown, is_touched, own, plain, seen_in, setting, tale_at, tale_of, whose, with_leaving}
 use Rattle.lard_law_connections.proofs.BytesLaw.{Helps}
 use Rattle.lard_law_connections.proofs.BytesRuns.{states-truthful}
 use Rattle.lard_law_connections.proofs.OffersSent.{AreSeen, grown-seen, own-sends}
@@ -76,18 +77,21 @@ module _ (files : FilesAt) where
 
 -- ---- every run
 
-module _ (config : Config) (files : List (List ℕ × List ℕ)) (small : config.stream ≤ 2 ^ 30) where
+module _ (config : Config) (files : List (List ℕ × List ℕ)) (checked : config_check config ≡ Ok tt) where
   abbrev k : Setting
   k = setting config files
+
+  small : k.stream ≤ 2 ^ 30
+  small = (usable config checked).stream
 
   guarded-names : OfEach config files (Guarded AreSeen (Names (file_at files)))
   guarded-names = carried config files (Given k small) (Guarded AreSeen (Names (file_at files)))
       (λ l. guarded-law (with_leaving k l) (Given k small) AreSeen (Names (file_at files)) (names-law (with_leaving k l) small))
-      (λ m r q. ((each-placed config files m r q, states-truthful config files small m r q), (each-guarded config files small m r q).0))
+      (λ m r q. ((each-placed config files checked m r q, states-truthful config files checked m r q), (each-guarded config files checked m r q).0))
 
   each : (m : Machine) → IsReached config files m → (q : ℕ) → EachRow (mine (file_at files) q) [] (conn m q).seen
   unfolding conn
   each m r q = (guarded-names m r q).1
 
 pub asks-name : AsksNameTheNext
-asks-name config files m small r = carried-records config files (MayGoOn (file_at files)) (mine (file_at files)) (nobody (file_at files)) (somebody (file_at files)) (each config files small) m r
+asks-name config files m checked r = carried-records config files (MayGoOn (file_at files)) (mine (file_at files)) (nobody (file_at files)) (somebody (file_at files)) (each config files checked) m r

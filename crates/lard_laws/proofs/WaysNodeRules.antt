@@ -1,8 +1,8 @@
 -- All rules of a node, and what changes nothing, leave a connection on its way.
-use Rattle.std.proofs.Common.{◌≡◌, ◌≤◌, ◌+◌, ◌^◌, ℕ, List, [], ◌∷◌, ◌++◌, Option, Some, None, refl, sym, subst}
-use Rattle.lard_law_view.specs.Prelude.{AreSent, BackRow, Completed, Conn, FilesAt, IsNodeEnv, Move, Node, NodeDeed, NodeEnv, NodeGets, NodePart, NodeRules, Place, Rec, Seen, Setting, again_sent, brought_said, content_said, front_rest, gone, node_does, node_saying, nothing_said, offered_by, packet_seen, stands, taken_sent, without}
-use Rattle.lard_base.specs.declared.place.TimerKind.TheVariants as timer
+use Rattle.std.proofs.Common.{◌≡◌, ◌≤◌, ◌+◌, ◌^◌, ℕ, Bool, List, [], ◌∷◌, ◌++◌, map, Option, Some, None, refl, sym, subst}
+use Rattle.lard_law_view.specs.Prelude.{AreSent, BackRow, Completed, Conn, FilesAt, IsNodeEnv, Kept, Move, Node, NodeDeed, NodeEnv, NodeGets, NodePart, NodeRules, Part, Place, Rec, Seen, Setting, again_sent, brought_said, content_said, front_rest, gone, kept_refused, letter, node_does, node_saying, nothing_said, offered_by, packet_seen, refused_sent, stands, taken_sent, told_kind, without}
 use Rattle.lard_handoff_back.specs.declared.table.Adopt.TheVariants.{New}
+use Rattle.lard_handoff_back.specs.Table.{Beside}
 use Rattle.lard_history.proofs.Each.{Each, Each-append}
 use Rattle.lard_journal.specs.declared.rec.Rec.TheVariants as rec
 use Rattle.lard_law_connections.specs.BytesAgreement.{IsTruthful}
@@ -12,28 +12,25 @@ use Rattle.lard_law_connections.proofs.BytesNodeRest.{front-opens}
 use Rattle.lard_law_connections.specs.Places.{IsDecided, IsPast}
 use Rattle.lard_law_view.proofs.EachNode.{Answers, Aside, Brings, MayAside, NodeComes, Queues, aside_said, aside_seen, each-node, job_notes, node_goes, told_first}
 use Rattle.lard_law_view.proofs.Parts.{put-each}
-use Rattle.lard_laws.specs.WaysState.{StayAsks, marks_at}
+use Rattle.lard_laws.specs.WaysState.{LetterWays, StayAsks, marks_at}
 use Rattle.lard_laws.specs.Ways.{WayMarks}
 use Rattle.lard_laws.proofs.NodeStays.{word-of}
 use Rattle.lard_laws.proofs.WaysHomes.{quiet-asks, quiet-says, seat-kept, sent-append}
 use Rattle.lard_laws.proofs.WaysLetters.{carries-same}
 use Rattle.lard_laws.proofs.WaysMarking.{IsPlain}
-use Rattle.lard_laws.proofs.WaysMoving.{Keeps, makes, none-asked, same-marks, sent-ask, sent-say, stands-makes}
-use Rattle.lard_laws.proofs.WaysNodes.{comes, fires, hears, reads, tags}
+use Rattle.lard_laws.proofs.WaysMoving.{Keeps, LetterAsks, makes, none-asked, same-marks, sent-ask, sent-say, stands-makes}
+use Rattle.lard_laws.proofs.WaysNodes.{comes, fires, hears, leaves, reads, tags}
 use Rattle.lard_laws.proofs.WaysOffered.{new-makes}
 use Rattle.lard_message.specs.declared.kind.Kind.TheVariants as kind
 use Rattle.lard_message.specs.declared.message.Body.TheVariants as body
 use Rattle.lard_rules.proofs.NodeCases.{KeptByNode, node-keeps}
 use Rattle.lard_rules.specs.Node.{Does, Says}
 
--- ---- the acknowledgement of an end
+-- ---- a stay that is as it was
 
 module _ (files : FilesAt) (x : Conn) (n : ℕ) (heads : List Seen) where
   abbrev p : NodePart
   p = x.part.nodes n
-
-  abbrev q : NodePart
-  q = record p { row = gone p.row; kept = without timer.Ended 0 p.kept }
 
   gone-past : (e : ℕ) (o : Option BackRow) → IsPast e o → IsPast e (gone o)
   gone-past e None h = h
@@ -43,15 +40,29 @@ module _ (files : FilesAt) (x : Conn) (n : ℕ) (heads : List Seen) where
   gone-decided e None h = h
   gone-decided e (Some row) h = h
 
-  gone-makes : Keeps files x (node_does x n heads (Does (q, node_saying [])))
-  gone-makes help g =
-      let m : WayMarks = marks_at x in
-      let v : Move = node_does x n heads (Does (q, node_saying [])) in
-      makes files x v help g m tt refl g.paths
-      (seat-kept files m x.part n q ((λ e h. gone-past e p.row h), (λ e h. gone-decided e p.row h), refl) x.part.front.row g.seat)
-      (carries-same files m m (same-marks files m m.served m.fresh) x.part v.part help.owes.grows refl refl
-      (λ i e ps c d a. put-each x.part.nodes n q (λ j (z : NodePart). StayAsks files ((front_rest x.part.front.rest).asks + 1) ps (x.part.nodes j).stay → StayAsks files ((front_rest x.part.front.rest).asks + 1) ps z.stay) (λ b. b) (λ j other b. b) i a))
-      (λ old. tt) tt
+  -- a node keeps this beside its stay, and says that
+  module _ (row : Option BackRow) (kept : List Kept) (beside : Beside) (past : (e : ℕ) → IsPast e p.row → IsPast e row) (decided : (e : ℕ) → IsDecided e p.row → IsDecided e row) where
+    abbrev q : NodePart
+    q = record p { row = row; kept = kept; beside = beside }
+
+    still-makes : (ms : List (Place × List ℕ)) → ((part : Part) → Each (LetterWays files (marks_at x) part) (map (letter (Node n)) ms)) → Each (LetterAsks files (marks_at x) x) (map (letter (Node n)) ms)
+        → Keeps files x (node_does x n heads (Does (q, node_saying ms)))
+    still-makes ms says asks help g =
+        let m : WayMarks = marks_at x in
+        let v : Move = node_does x n heads (Does (q, node_saying ms)) in
+        makes files x v help g m tt refl g.paths (seat-kept files m x.part n q (past, decided, refl) x.part.front.row g.seat)
+        (carries-same files m m (same-marks files m m.served m.fresh) x.part v.part help.owes.grows refl refl
+        (λ i e ps c d a. put-each x.part.nodes n q (λ j (z : NodePart). StayAsks files ((front_rest x.part.front.rest).asks + 1) ps (x.part.nodes j).stay → StayAsks files ((front_rest x.part.front.rest).asks + 1) ps z.stay) (λ b. b) (λ j other b. b) i a))
+        (λ old. says v.part) asks
+
+  -- what tells that it is over is acknowledged
+  gone-makes : (back : Bool) → Keeps files x (node_does x n heads (Does (record p { row = gone p.row; kept = without (told_kind back) 0 p.kept }, node_saying [])))
+  gone-makes back = still-makes (gone p.row) (without (told_kind back) 0 p.kept) p.beside (λ e h. gone-past e p.row h) (λ e h. gone-decided e p.row h) [] (λ part. tt) tt
+
+  refused-makes : (env : NodeEnv) → Keeps files x (node_does x n heads (Does (kept_refused env p, node_saying (refused_sent env))))
+  refused-makes env = still-makes p.row p.kept (kept_refused env p).beside (λ e h. h) (λ e h. h) (refused_sent env)
+      (λ part. (quiet-says files (marks_at x) part n env.serve.c env.epoch body.Refused (λ ask. let no : kind.Refused ≡ kind.Ask = ask in cc), tt))
+      (quiet-asks files (marks_at x) x n env.serve.c env.epoch body.Refused (λ ask. let no : kind.Refused ≡ kind.Ask = ask in cc), tt)
 
 -- ---- what is said alone
 
@@ -95,15 +106,17 @@ module _ (k : Setting) (small : k.stream ≤ 2 ^ 30) where
           tags k small x truth n epoch env is heads first plain b t here number nodes m.0.bytes m.0.spells m.0.was same count;
       comes = λ from r b t m here wanted. comes k small x truth n epoch env is heads first plain b t here from r;
       reads = λ r path b t m here. reads k small x truth n epoch env is heads first plain b t here r;
-      begins = λ parts m new.
+      begins = λ parts m new may.
           let s = opened-at k.files x truth (front-opens x n m.0.bytes m.0.was) in
           alone m.1 (offered_by env parts (x.part.nodes n) New)
           (new-makes k small x s.0 s.1 truth.talk truth.pend (open-at k.files x s.0 s.1 truth) n epoch env is parts m.0.bytes m.0.spells m.0.was heads new);
       takes_again = λ parts m again. alone m.1 (Says (taken_sent env)) (answer-makes env.serve.files x n env heads);
+      refuses = λ parts m is. alone m.1 (Does (kept_refused env (x.part.nodes n), node_saying (refused_sent env))) (refused-makes env.serve.files x n heads env);
       fires = λ b t m here. fires k small x truth n epoch env is heads first plain b t here;
       resends = λ m none. alone m.1 (Says (again_sent (x.part.nodes n))) (again-makes env.serve.files x n env heads);
-      ends = λ m told.
-          alone m.1 (Does (record (x.part.nodes n) { row = gone (x.part.nodes n).row; kept = without timer.Ended 0 (x.part.nodes n).kept }, node_saying [])) (gone-makes env.serve.files x n heads);
+      ends = λ back m told was.
+          alone m.1 (Does (record (x.part.nodes n) { row = gone (x.part.nodes n).row; kept = without (told_kind back) 0 (x.part.nodes n).kept }, node_saying [])) (gone-makes env.serve.files x n heads back);
+      leaves = λ b t m here back. leaves k small x truth n epoch env is heads first plain b t here;
     }
 
   jobs-plain : (c n : ℕ) (g : NodeGets) → Each IsPlain (job_notes c n g)
@@ -121,7 +134,7 @@ module _ (k : Setting) (small : k.stream ≤ 2 ^ 30) where
         let first : List Rec = job_notes x.c n g in
         let all = rules_keep x h n epoch env is heads first (jobs-plain x.c n g) in
         subst (λ (f : FilesAt). Keeps f x (node_goes x n env heads g)) is.files
-        (node-keeps env (x.part.nodes n) (Comes x h n epoch env is heads first (jobs-plain x.c n g)) (After x h n epoch env is heads first (jobs-plain x.c n g)) all g at (comes, refl));
+        (node-keeps env (x.part.nodes n) (Comes x h n epoch env is heads first (jobs-plain x.c n g)) (After x h n epoch env is heads first (jobs-plain x.c n g)) all g at.0 (comes, refl));
     aside = asides-keep;
   })
 

@@ -1,13 +1,13 @@
 -- Each rule of a node leaves a connection on its way.
-use Rattle.std.proofs.Common.{◌≡◌, ◌≤◌, ◌<◌, ◌^◌, ℕ, List, [], ◌++◌, length, Some, refl, sym, ap, ◌∙◌, subst, arith}
-use Rattle.lard_law_view.specs.Prelude.{Conn, ControlBlock, FilesAt, Front, FrontRest, FrontRow, IsNodeEnv, IsWord, Node, NodeDeed, NodeEnv, NodePart, NodeTurn, Rec, Said, Seen, Setting, SpellsMessage, Stay, Talk, Was, after_timer, came_for, come_progress, front_rest, goes_on, named_paths, named_records, node_does, node_fired, node_rests, on_segment, read_progress, serving, serving_ready_of, spoken, tagged, timed, with_work, without, work_of}
+use Rattle.std.proofs.Common.{◌≡◌, ◌≤◌, ◌<◌, ◌^◌, ℕ, List, [], ◌++◌, length, Some, sym, ap, ◌∙◌, subst, arith}
+use Rattle.lard_law_view.specs.Prelude.{Conn, ControlBlock, FilesAt, Front, FrontRest, FrontRow, IsNodeEnv, IsWord, Node, NodeDeed, NodeEnv, NodePart, NodeTurn, Rec, Said, Seen, Setting, SpellsMessage, Stay, Talk, Was, after_timer, came_for, come_progress, front_rest, gives_back, goes_on, kept_back, named_paths, named_records, node_does, node_fired, node_rests, on_segment, read_progress, serving, serving_ready_of, spoken, tagged, timed, turn_back, without, work_of}
 use Rattle.lard_base.specs.declared.place.TimerKind.TheVariants as timer
 use Rattle.lard_history.proofs.Each.{Each}
 use Rattle.lard_law_connections.specs.BytesAgreement.{IsTruthful}
 use Rattle.lard_law_connections.proofs.BytesClientMoves.{has-fair}
 use Rattle.lard_law_connections.proofs.BytesNodeMoves.{HasIt, IsAt}
 use Rattle.lard_law_connections.proofs.BytesNodeTurns.{talk-of}
-use Rattle.lard_law_connections.proofs.PlacesTurns.{IsPlaced, early-at, small-early}
+use Rattle.lard_law_connections.proofs.PlacesTurns.{IsPlaced, early-at}
 use Rattle.lard_law_view.proofs.EachNode.{told_first}
 use Rattle.lard_laws.specs.WaysState.{FrontSaysWays, GoesItsWay, LetterWays, StayWays, TagIs, marks_at}
 use Rattle.lard_laws.specs.Ways.{WayMarks}
@@ -15,10 +15,11 @@ use Rattle.lard_laws.proofs.NodeStays.{StayHolds, stay-holds, with-row}
 use Rattle.lard_laws.proofs.WaysHomes.{AtHome, at-home, does-makes, named-marked, named-rightly}
 use Rattle.lard_laws.proofs.WaysMarking.{IsPlain, Rightly, marked, marked-append, plain-marked, plain-rightly, rightly-append}
 use Rattle.lard_laws.proofs.WaysMoving.{Keeps}
-use Rattle.lard_laws.proofs.WaysTurning.{Asked_by, IsAgreeing, TurnWays, comes-ways, fires-ways, hears-ways, reads-ways, tags-ways}
+use Rattle.lard_laws.proofs.WaysTurning.{Asked_by, DeedWays, IsAgreeing, TurnWays, comes-ways, fires-ways, hears-ways, leaves-ways, reads-ways, tags-ways}
 use Rattle.lard_message.specs.declared.message.Body.TheVariants as body
-use Rattle.lard_rules.proofs.NodeCases.{IsHereWith}
+use Rattle.lard_rules.proofs.NodeCases.{IsHereWith, Turned}
 use Rattle.lard_rules.specs.Node.{Does}
+use Rattle.lard_rules.specs.Stay.{Work}
 
 module _ (k : Setting) (small : k.stream ≤ 2 ^ 30) (x : Conn) (truth : IsTruthful k.files x) (n epoch : ℕ) (env : NodeEnv) (is : IsNodeEnv k x.c n epoch env) where
   abbrev files : FilesAt
@@ -80,7 +81,7 @@ module _ (k : Setting) (small : k.stream ≤ 2 ^ 30) (x : Conn) (truth : IsTruth
           };
           placed = placed;
           way = g;
-          early = let most = small-early has.row.epoch.0 has.row.stage (early-at x placed has.row has.found has.row.stage refl) in let same = has.same in omega (arith, most, same);
+          early = let most = early-at x placed has.row has.found in let same = has.same in omega (arith, most, same);
           home = h.home;
           some = h.has.some;
           row = has.row;
@@ -98,21 +99,31 @@ module _ (k : Setting) (small : k.stream ≤ 2 ^ 30) (x : Conn) (truth : IsTruth
         (rightly-append files m first named (plain-rightly files m first plain) (subst (λ (q : WayMarks). Rightly files q named) (sym (plain-marked m first plain)) (named-rightly files m given.1.notes turn.notes)))
         (marked-append m first named ∙ ap (λ (q : WayMarks). marked q named) (plain-marked m first plain) ∙ named-marked files m given.1.notes) q.row q.found q.at q.same q.home q.some help g
 
-    pub hears : (said : Said) → IsWord l.w said → After (with_work env p [] (goes_on env (work_of (on_segment b said).1 t)))
-    hears said word = does-here (node_rests env p [] (goes_on env (work_of (on_segment b said).1 t))) (λ q. hears-ways env m r l truth.pend p b t q.agree said word)
+    -- it rests, or goes back
+    turned-here : (part : NodePart) (w : Work) → (Known → Turned (λ d. DeedWays env m r p (Asked_by env m r p) d) env part [] w) → Turned After env part [] w
+    turned-here part w ways = (
+      λ rests. does-here (node_rests env part [] w) (λ q. (ways q).0 rests),
+      λ back. does-here (kept_back env part w, turn_back env [] w) (λ q. (ways q).1 back),
+    )
+
+    pub hears : (said : Said) → IsWord l.w said → Turned After env p [] (goes_on env (work_of (on_segment b said).1 t))
+    hears said word = turned-here p (goes_on env (work_of (on_segment b said).1 t)) (λ q. hears-ways env m r l truth.pend p b t q.agree said word)
 
     pub tags : (number : ℕ) (nodes bytes : List ℕ) → SpellsMessage x.c epoch (body.Tag number nodes) bytes → Was x Front (Node n) bytes → t.asks ≡ number
         → length nodes ≡ length (named_paths files t.batch)
-        → After (with_work env (record p { kept = without timer.Ask 0 p.kept }) [] (goes_on env (tagged env nodes (work_of b t))))
-    tags number nodes bytes spells was same count = does-here (node_rests env (record p { kept = without timer.Ask 0 p.kept }) [] (goes_on env (tagged env nodes (work_of b t))))
+        → Turned After env (record p { kept = without timer.Ask 0 p.kept }) [] (goes_on env (tagged env nodes (work_of b t)))
+    tags number nodes bytes spells was same count = turned-here (record p { kept = without timer.Ask 0 p.kept }) (goes_on env (tagged env nodes (work_of b t)))
         (λ q. tags-ways env m r l truth.pend p b t q.agree number nodes (tag-of number nodes bytes spells was q.placed q.way q.row q.found q.at q.same) same count)
 
     pub comes : (from i : ℕ)
-        → After (with_work env (record p { fetches = without timer.Fetch i p.fetches }) [] (goes_on env (came_for (come_progress from) i (work_of b t))))
-    comes from i = does-here (node_rests env (record p { fetches = without timer.Fetch i p.fetches }) [] (goes_on env (came_for (come_progress from) i (work_of b t)))) (λ q. comes-ways env m r l truth.pend p b t q.agree from i)
+        → Turned After env (record p { fetches = without timer.Fetch i p.fetches }) [] (goes_on env (came_for (come_progress from) i (work_of b t)))
+    comes from i = turned-here (record p { fetches = without timer.Fetch i p.fetches }) (goes_on env (came_for (come_progress from) i (work_of b t))) (λ q. comes-ways env m r l truth.pend p b t q.agree from i)
 
-    pub reads : (i : ℕ) → After (with_work env p [] (goes_on env (came_for read_progress i (work_of b t))))
-    reads i = does-here (node_rests env p [] (goes_on env (came_for read_progress i (work_of b t)))) (λ q. reads-ways env m r l truth.pend p b t q.agree i)
+    pub leaves : After (gives_back env p [] (work_of b t))
+    leaves = does-here (kept_back env p (work_of b t), turn_back env [] (work_of b t)) (λ q. leaves-ways env m r l truth.pend p b t q.agree)
+
+    pub reads : (i : ℕ) → Turned After env p [] (goes_on env (came_for read_progress i (work_of b t)))
+    reads i = turned-here p (goes_on env (came_for read_progress i (work_of b t))) (λ q. reads-ways env m r l truth.pend p b t q.agree i)
 
     pub fires : After (Does (node_fired env p (b, t) (spoken env.serve (serving (after_timer b) t.served []) (serving_ready_of env.serve (after_timer b) (timed b)))))
     fires = does-here (node_fired env p (b, t) (spoken env.serve (serving (after_timer b) t.served []) (serving_ready_of env.serve (after_timer b) (timed b)))) (λ q. fires-ways env m r l truth.pend p b t q.agree)

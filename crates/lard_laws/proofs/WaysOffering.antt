@@ -89,7 +89,7 @@ module _ (k : Setting) (small : k.stream ≤ 2 ^ 30) (x : Conn) (s : Station) (t
         (λ (a : IsPast row.epoch.0 p.row × IsOffering l.w l.out l.vs pend x.c n row.epoch.0 x.part.front.kept). a.1)
         (λ (a : IsDecided row.epoch.0 p.row × NodeAgrees l.w l.out l.vs pend l.was_reset x.c p). absurd (undecided a.0)) away in
         let spelled : message x.c row.epoch.0 (body.Offer (parts_of offering.block offering.count)) ≡ bytes = ap first_bytes (sym offering.kept_is ∙ kept.1) ∙ kept.2 in
-        let early = early-at x placed row found (stage.Offering n d) at in
+        let early = early-at x placed row found in
         let same : parts ≡ parts_of offering.block offering.count = offers-read x.c row.epoch.0 l.w l.out l.vs pend offering.block offering.count number (omega (arith, early))
         (talk-of k small x s there l pend o n env epoch is).stream offering.holds offering.frozen _ parts (ap decoded_message spelled ∙ spells) refl in
         let mine : IsAway files m r n row.epoch.0 p = subst (StageWays files m x.part row.epoch.0) at (subst (SeatWays files m x.part) found g.seat) in

@@ -1,6 +1,7 @@
 -- Each rule leaves a connection on its way, so it is in every run; and what its records say the journal says.
-use Rattle.std.proofs.Common.{◌≡◌, ◌≤◌, ◌^◌, ℕ, false, List, [], Some, None, refl, sym, ap, ◌∙◌, subst}
-use Rattle.lard_law_view.specs.Prelude.{Config, Conn, EachRow, FilesAt, Guarded, IsGuardedLaw, IsReached, Machine, MayRestOn, Move, OfEach, Rec, Seen, Setting, Tale, Untouched, UntouchedRules, WhileUntouched, conn, file_at, grown, is_touched, own, plain, seen_in, setting, tale_at, tale_of, whose, with_leaving}
+use Rattle.std.proofs.Common.{◌≡◌, ◌≤◌, ◌^◌, ℕ, false, List, [], Some, None, Ok, refl, sym, ap, ◌∙◌, subst}
+use Rattle.lard_base.proofs.Usable.{usable}
+use Rattle.lard_law_view.specs.Prelude.{Config, Conn, EachRow, FilesAt, Guarded, IsGuardedLaw, IsReached, Machine, MayRestOn, Move, OfEach, Rec, Seen, Setting, Tale, Untouched, UntouchedRules, WhileUntouched, config_check, conn, file_at, grown, is_touched, own, plain, seen_in, setting, tale_at, tale_of, whose, with_leaving}
 use Rattle.lard_law_connections.specs.BytesAgreement.{IsTruthful}
 use Rattle.lard_law_connections.proofs.BytesLaw.{Helps}
 use Rattle.lard_law_connections.proofs.BytesOwners.{Known, Knows, known}
@@ -123,24 +124,27 @@ module _ (files : FilesAt) where
 
 -- ---- every run
 
-module _ (config : Config) (files : List (List ℕ × List ℕ)) (small : config.stream ≤ 2 ^ 30) where
+module _ (config : Config) (files : List (List ℕ × List ℕ)) (checked : config_check config ≡ Ok tt) where
   abbrev k : Setting
   k = setting config files
+
+  small : k.stream ≤ 2 ^ 30
+  small = (usable config checked).stream
 
   pub each-guarded : OfEach config files (Guarded (GoesItsWay (file_at files)) (λ c. Mine (file_at files) c))
   each-guarded = carried config files (Given k small) (Guarded (GoesItsWay (file_at files)) (λ c. Mine (file_at files) c))
       (λ l. guarded-law (with_leaving k l) (Given k small) (GoesItsWay (file_at files)) (λ c. Mine (file_at files) c) (ways-law (with_leaving k l) small))
-      (λ m r q. (each-placed config files m r q, states-truthful config files small m r q))
+      (λ m r q. (each-placed config files checked m r q, states-truthful config files checked m r q))
 
   each : (m : Machine) → IsReached config files m → (q : ℕ) → EachRow (seen_so (file_at files) q) [] (conn m q).seen
   unfolding conn
   each m r q = (each-guarded m r q).1
 
 pub contents-come : ContentsComeAsAssigned
-contents-come config files m small r = carried-records config files (MayComeThisWay (file_at files)) (seen_so (file_at files)) (comes-nobody (file_at files)) (comes-somebody (file_at files)) (each config files small) m r
+contents-come config files m checked r = carried-records config files (MayComeThisWay (file_at files)) (seen_so (file_at files)) (comes-nobody (file_at files)) (comes-somebody (file_at files)) (each config files checked) m r
 
 pub assign-in-order : JournalsAssignInOrder
-assign-in-order config files m small r = carried-records config files (MayBeAssigned (file_at files)) (seen_so (file_at files)) (assigned-nobody (file_at files)) (assigned-somebody (file_at files)) (each config files small) m r
+assign-in-order config files m checked r = carried-records config files (MayBeAssigned (file_at files)) (seen_so (file_at files)) (assigned-nobody (file_at files)) (assigned-somebody (file_at files)) (each config files checked) m r
 
 pub assign-a-prefix : JournalsAssignAPrefix
-assign-a-prefix config files m small r = assigns-a-prefix (file_at files) m.journal (assign-in-order config files m small r)
+assign-a-prefix config files m checked r = assigns-a-prefix (file_at files) m.journal (assign-in-order config files m checked r)

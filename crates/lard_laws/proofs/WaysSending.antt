@@ -99,7 +99,7 @@ module _ (k : Setting) where
   nodes = each-node k (Owes k) (record {
     does = λ x n epoch env heads g is at comes h.
         let d : node.NodeDeed = node_rule env (x.part.nodes n) g in
-        let quiet : IsQuiet x (node_does x n heads d) = deed-quiet x n heads d h (subst (λ (c : ℕ). DeedNone c d) is.number (rule-none env (x.part.nodes n) (h n) g at)) in
+        let quiet : IsQuiet x (node_does x n heads d) = deed-quiet x n heads d h (subst (λ (c : ℕ). DeedNone c d) is.number (rule-none env (x.part.nodes n) (h n) g at.0)) in
         let v : Move = node_goes x n env heads g in
         (quiet.holds, quiet-at k x v v.place (record { holds = quiet.holds; segments = quiet.segments; messages = quiet.messages }));
     aside = asides;

@@ -1,7 +1,7 @@
 -- What a turn of a node leaves: its responses go with their assignments, its batch still agrees with them, and an Ask names the next
 -- good requests.
 use Rattle.std.proofs.Common.{◌≡◌, ◌+◌, ◌⊎◌, ℕ, false, List, [], ◌∷◌, ◌++◌, length, Option, Some, None, inl, inr, ⊎_elim, refl, sym, ap, ◌∙◌, subst, arith, append_assoc, append-nil}
-use Rattle.lard_law_view.specs.Prelude.{Asked, Body, Client, ControlBlock, Ending, FilesAt, Front, FrontRest, IsPrefix, IsWord, Node, NodeDeed, NodeEnv, NodePart, NodeTurn, Place, Said, Stay, Talk, Turn, Verdict, Want, Work, after_timer, again_sent, asked_sent, came_for, come_progress, ended_sent, goes_on, kept_after, named_paths, node_fired, on_segment, read_progress, serving, serving_ready_of, serving_settled, spoken, tagged, timed, turn_by, wants_sent, with_work, without, work_of}
+use Rattle.lard_law_view.specs.Prelude.{Asked, Body, Client, ControlBlock, Ending, FilesAt, Front, FrontRest, IsPrefix, IsWord, Node, NodeDeed, NodeEnv, NodePart, NodeTurn, Place, Said, Stay, Talk, Turn, Verdict, Want, Work, after_timer, again_sent, asked_sent, came_for, come_progress, ended_sent, give_kept, gives_back, goes_on, kept_after, named_paths, node_fired, on_segment, parts_of, read_progress, sent_of, serving, serving_ready_of, serving_settled, spoken, tagged, timed, turn_by, wants_sent, with_work, without, work_of}
 use Rattle.lard_base.specs.declared.place.TimerKind.TheVariants as timer
 use Rattle.lard_law_connections.proofs.AwaitsNodes.{HasServed, settled-served, spoken-served}
 use Rattle.lard_law_connections.specs.BytesKeeping.{IsTalk}
@@ -21,6 +21,7 @@ use Rattle.lard_laws.proofs.WaysShort.{AreShort, short-within, wanted-short}
 use Rattle.lard_laws.proofs.WaysStaying.{AskIn, Goes, Home}
 use Rattle.lard_history.proofs.Each.{Each, Each-append}
 use Rattle.lard_message.specs.declared.message.Body.TheVariants as body
+use Rattle.lard_rules.proofs.NodeCases.{Turned}
 use Rattle.lard_rules.specs.Node.{Does, message}
 use Rattle.lard_rules.specs.Node as node
 use Rattle.lard_rules.specs.declared.places.Ending.TheVariants as ending
@@ -82,21 +83,24 @@ module _ (env : NodeEnv) (m : WayMarks) (r : FrontRest) where
     after-decided part (ending.Here b count) = omega arith
     after-decided part (ending.Over last) = omega arith
 
-    asked-says : (part : NodePart) (e : Ending) (o : Option Asked) → AskIn env m r Before k o → Each (SaysIt (kept_after env part k e).stay) (asked_sent env o)
-    asked-says part e None a = tt
-    asked-says part e (Some q) a =
-        let short : AreShort q.paths = short-within (paths_assigned m) q.paths a.2.0 (paths_wanted files m) a.2.1 (wanted-short files m.wrote) in
-        (inr (body.Ask q.number q.queue q.size q.paths, refl, (a.0, short, a.2, after-asks part e q.paths a.1)), tt)
-
     ended-says : (part : NodePart) (e : Ending) → Each (SaysIt (kept_after env part k e).stay) (ended_sent env k.service.over e)
     ended-says part (ending.Here b count) = tt
     ended-says part (ending.Over last) = (inr (body.Ended last.reason last.snd.0 last.rcv.0 (node.reset_count k.service.over), refl, tt), tt)
 
-    rest-says : (part : NodePart) (e : Ending) → Each (SaysIt (kept_after env part k e).stay) ((asked_sent env k.asked ++ wants_sent env k.wants) ++ ended_sent env k.service.over e)
-    rest-says part e =
-        let S = SaysIt (kept_after env part k e).stay in
-        Each-append S (asked_sent env k.asked ++ wants_sent env k.wants) (ended_sent env k.service.over e)
-        (Each-append S (asked_sent env k.asked) (wants_sent env k.wants) (asked-says part e k.asked h.asked) (wants-say (kept_after env part k e).stay k.wants)) (ended-says part e)
+    give-says : Each (SaysIt None) (sent_of (give_kept env k) ∷ [])
+    give-says = (inr (body.Give (parts_of k.service.block k.service.count), refl, tt), tt)
+
+    -- where this is kept of the stay, and that is said last
+    module _ (stay : Option Stay) (asks : (ps : List (List ℕ)) → (k.asks ≡ r.asks + 1) × (ps ≡ named_paths files k.batch) → StayAsks files (r.asks + 1) ps stay) (last : List (Place × List ℕ)) where
+      asked-says : (o : Option Asked) → AskIn env m r Before k o → Each (SaysIt stay) (asked_sent env o)
+      asked-says None a = tt
+      asked-says (Some q) a =
+          let short : AreShort q.paths = short-within (paths_assigned m) q.paths a.2.0 (paths_wanted files m) a.2.1 (wanted-short files m.wrote) in
+          (inr (body.Ask q.number q.queue q.size q.paths, refl, (a.0, short, a.2, asks q.paths a.1)), tt)
+
+      rest-says : Each (SaysIt stay) last → Each (SaysIt stay) ((asked_sent env k.asked ++ wants_sent env k.wants) ++ last)
+      rest-says says = Each-append (SaysIt stay) (asked_sent env k.asked ++ wants_sent env k.wants) last
+          (Each-append (SaysIt stay) (asked_sent env k.asked) (wants_sent env k.wants) (asked-says k.asked h.asked) (wants-say stay k.wants)) says
 
     -- these messages go out before all others
     pub record First (old : NodePart) (before : List (Place × List ℕ)) : Type 0 where
@@ -105,6 +109,16 @@ module _ (env : NodeEnv) (m : WayMarks) (r : FrontRest) where
       pub is : before ≡ again ++ first
       pub sent : (again ≡ []) ⊎ (again ≡ again_sent old)
       pub said : (stay : Option Stay) → Each (SaysIt stay) first
+
+    -- all that goes out, with what is said last
+    all-are : (old : NodePart) (before last : List (Place × List ℕ)) (first : First old before)
+        → (before ++ asked_sent env k.asked ++ wants_sent env k.wants) ++ last ≡ first.again ++ (first.first ++ ((asked_sent env k.asked ++ wants_sent env k.wants) ++ last))
+    all-are old before last first =
+        let rest : List (Place × List ℕ) = asked_sent env k.asked ++ wants_sent env k.wants in
+        ap (λ (ms : List (Place × List ℕ)). ms ++ last) (append_assoc before (asked_sent env k.asked) (wants_sent env k.wants))
+        ∙ append_assoc before rest last
+        ∙ ap (λ (ms : List (Place × List ℕ)). ms ++ (rest ++ last)) first.is
+        ∙ append_assoc first.again first.first (rest ++ last)
 
     pub turn-ways : (old part : NodePart) (Was : List (List ℕ) → Type 0) (before : List (Place × List ℕ)) (given : Ending × Turn) → First old before → given.1.notes ≡ k.service.notes → HasServed k.service.count given.0 → AllTo (Client env.serve.c) given.1.segments
         → ((ps : List (List ℕ)) → Was ps → Before ps) → TurnWays old Was (kept_after env part k given.0, turn_by env before k given)
@@ -118,12 +132,27 @@ module _ (env : NodeEnv) (m : WayMarks) (r : FrontRest) where
       to = to;
       again = first.again;
       more = first.first ++ ((asked_sent env k.asked ++ wants_sent env k.wants) ++ ended_sent env k.service.over given.0);
-      messages = ap (λ (ms : List (Place × List ℕ)). ms ++ ended_sent env k.service.over given.0) (append_assoc before (asked_sent env k.asked) (wants_sent env k.wants))
-          ∙ append_assoc before (asked_sent env k.asked ++ wants_sent env k.wants) (ended_sent env k.service.over given.0)
-          ∙ ap (λ (ms : List (Place × List ℕ)). ms ++ ((asked_sent env k.asked ++ wants_sent env k.wants) ++ ended_sent env k.service.over given.0)) first.is
-          ∙ append_assoc first.again first.first ((asked_sent env k.asked ++ wants_sent env k.wants) ++ ended_sent env k.service.over given.0);
+      messages = all-are old before (ended_sent env k.service.over given.0) first;
       sent = first.sent;
-      said = Each-append (SaysIt (kept_after env part k given.0).stay) first.first ((asked_sent env k.asked ++ wants_sent env k.wants) ++ ended_sent env k.service.over given.0) (first.said _) (rest-says part given.0);
+      said = Each-append (SaysIt (kept_after env part k given.0).stay) first.first ((asked_sent env k.asked ++ wants_sent env k.wants) ++ ended_sent env k.service.over given.0) (first.said _)
+          (rest-says (kept_after env part k given.0).stay (after-asks part given.0) (ended_sent env k.service.over given.0) (ended-says part given.0));
+    }
+
+    pub back-ways : (old part : NodePart) (Was : List (List ℕ) → Type 0) (before : List (Place × List ℕ)) → First old before → DeedWays old Was (gives_back env part before k)
+    back-ways old part Was before first = record {
+      served = k.service.count;
+      notes = h.noted_so;
+      told = h.told;
+      stay = tt;
+      kept = λ ps a. tt;
+      decided = omega arith;
+      to = tt;
+      again = first.again;
+      more = first.first ++ ((asked_sent env k.asked ++ wants_sent env k.wants) ++ sent_of (give_kept env k) ∷ []);
+      messages = all-are old before (sent_of (give_kept env k) ∷ []) first;
+      sent = first.sent;
+      said = Each-append (SaysIt None) first.first ((asked_sent env k.asked ++ wants_sent env k.wants) ++ sent_of (give_kept env k) ∷ []) (first.said None)
+          (rest-says None (λ ps a. tt) (sent_of (give_kept env k) ∷ []) give-says);
     }
 
     pub work-ways : (old part : NodePart) (Was : List (List ℕ) → Type 0) (before : List (Place × List ℕ)) → First old before → ((ps : List (List ℕ)) → Was ps → Before ps) → DeedWays old Was (with_work env part before k)
@@ -163,34 +192,42 @@ module _ (env : NodeEnv) (m : WayMarks) (r : FrontRest) where
     same : Works env l.w l.out l.vs k
     same = same-works env l.w l.out l.vs l.was_reset pend (b, s) a.talk.says a.held
 
-    goes-on : (part : NodePart) (k : Work) → Works env l.w l.out l.vs k → Right env l.w l.out l.vs k → Goes env m r Before k
-        → DeedWays p (Asked_by p) (with_work env part [] (goes_on env k))
-    goes-on part k works right g =
-        let all : Goes env m r Before (goes_on env k) = stay-goes env m r Before a.home l.w l.out l.vs a.wrote a.talk.most k works right g in
-        work-ways Before (goes_on env k) all p part (Asked_by p) [] (none-first Before (goes_on env k) all p) asks-it
+    -- a turn of the stay, which rests or goes back
+    abbrev pub Turns : NodePart → Work → Type 0
+    Turns part k = Turned (λ d. DeedWays p (Asked_by p) d) env part [] k
 
-    pub hears-ways : (said : Said) → IsWord l.w said → DeedWays p (Asked_by p) (with_work env p [] (goes_on env (work_of (on_segment b said).1 s)))
+    goes-on : (part : NodePart) (k : Work) → Works env l.w l.out l.vs k → Right env l.w l.out l.vs k → Goes env m r Before k → Turns part (goes_on env k)
+    goes-on part k works right g =
+        let all : Goes env m r Before (goes_on env k) = stay-goes env m r Before a.home l.w l.out l.vs a.wrote a.talk.most k works right g in (
+          λ rests. work-ways Before (goes_on env k) all p part (Asked_by p) [] (none-first Before (goes_on env k) all p) asks-it,
+          λ back. back-ways Before (goes_on env k) all p part (Asked_by p) [] (none-first Before (goes_on env k) all p),
+        )
+
+    pub leaves-ways : DeedWays p (Asked_by p) (gives_back env p [] k)
+    leaves-ways = back-ways Before k begun p p (Asked_by p) [] (none-first Before k begun p)
+
+    pub hears-ways : (said : Said) → IsWord l.w said → Turns p (goes_on env (work_of (on_segment b said).1 s))
     hears-ways said word = goes-on p (work_of (on_segment b said).1 s)
         (subst (So env.serve l.w l.out l.vs (serving (on_segment b said).1 s.served [])) a.held.0 (heard-so env.serve l.w l.out l.vs a.talk.says pend b s.served a.held.1 a.talk.stream said word)) a.held.2
         (let g = begun in record { noted_so = g.noted_so; told = g.told; gone = g.gone; under = g.under; walked = g.walked; lies = g.lies; asking = g.asking; asked = g.asked; kept = g.kept })
 
     pub tags-ways : (number : ℕ) (nodes : List ℕ) → TagIs r number nodes → s.asks ≡ number → length nodes ≡ length (named_paths files s.batch)
-        → DeedWays p (Asked_by p) (with_work env (record p { kept = without timer.Ask 0 p.kept }) [] (goes_on env (tagged env nodes k)))
+        → Turns (record p { kept = without timer.Ask 0 p.kept }) (goes_on env (tagged env nodes k))
     tags-ways number nodes tag asks count =
         let part : NodePart = record p { kept = without timer.Ask 0 p.kept } in
         let at : number ≡ r.asks = ⊎_elim (λ (q : (s.asks ≡ r.asks) × (m.assigned ≡ _)). sym asks ∙ q.0) (λ (q : (s.asks ≡ r.asks + 1) × _ × _). absurd (let le = tag.0 in omega (arith, asks, q.0, le))) begun.asking in
         let is_tag : nodes ≡ r.tag = tag.1 at in
-        subst (λ (ns : List ℕ). DeedWays p (Asked_by p) (with_work env part [] (goes_on env (tagged env ns k)))) (sym is_tag)
+        subst (λ (ns : List ℕ). Turns part (goes_on env (tagged env ns k))) (sym is_tag)
         (goes-on part (tagged env r.tag k) (tagged-so env l.w l.out l.vs r.tag k same) (tagged-right env r.tag k a.held.2)
         (tagged-goes env m r Before k begun refl (asks ∙ at) (ap length (sym is_tag) ∙ count)))
 
     pub comes-ways : (from i : ℕ)
-        → DeedWays p (Asked_by p) (with_work env (record p { fetches = without timer.Fetch i p.fetches }) [] (goes_on env (came_for (come_progress from) i k)))
+        → Turns (record p { fetches = without timer.Fetch i p.fetches }) (goes_on env (came_for (come_progress from) i k))
     comes-ways from i = goes-on (record p { fetches = without timer.Fetch i p.fetches }) (came_for (come_progress from) i k) (came-so env l.w l.out l.vs (come_progress from) i k same)
         (came-right files (come_progress from) (come_progress-on files from) i k a.held.2)
         (came-goes env m r Before (come_progress from) (come-keeps files env.n from) i k begun)
 
-    pub reads-ways : (i : ℕ) → DeedWays p (Asked_by p) (with_work env p [] (goes_on env (came_for read_progress i k)))
+    pub reads-ways : (i : ℕ) → Turns p (goes_on env (came_for read_progress i k))
     reads-ways i = goes-on p (came_for read_progress i k) (came-so env l.w l.out l.vs read_progress i k same) (came-right files read_progress (read_progress-on files) i k a.held.2)
         (came-goes env m r Before read_progress (read-keeps files env.n) i k begun)
 

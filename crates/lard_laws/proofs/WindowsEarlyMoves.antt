@@ -25,7 +25,7 @@ use Rattle.lard_handoff_front.specs.declared.row.FrontConn.TheVariants as stage
 use Rattle.lard_history.proofs.Each.{Each, Each-append, Each-weaker}
 use Rattle.lard_rules.proofs.Endings.{settled-keeps}
 use Rattle.lard_rules.proofs.FrontCases.{IsInStage, KeptByFront, KeptBySegment, begun_row, begun_service, front-keeps, heard_reading, of-stage}
-use Rattle.lard_rules.proofs.NodeCases.{IsHereWith, IsInItsEpoch, KeptByNode, node-keeps}
+use Rattle.lard_rules.proofs.NodeCases.{IsHereWith, IsOfItsEpoch, KeptByNode, node-keeps}
 use Rattle.lard_rules.specs.Node as node
 use Rattle.lard_law_view.proofs.Deeds.{front-station, node-station}
 
@@ -227,15 +227,17 @@ module _ (k : Setting) (small : k.stream ≤ 2 ^ 30) where
       tags = λ number nodes b t m at asked same count. absurd (none-here b t at);
       comes = λ from r b t m at wanted. absurd (none-here b t at);
       reads = λ r path b t m at. absurd (none-here b t at);
-      begins = λ parts m new. absurd (never m.bytes m.was);
+      begins = λ parts m new may. absurd (never m.bytes m.was);
       takes_again = λ parts m again. absurd (never m.bytes m.was);
+      refuses = λ parts m is. absurd (never m.bytes m.was);
       fires = λ b t m at. absurd (none-here b t at);
       resends = λ m none. said-still x s (Node n) heads (record nothing_said { messages = again_sent p }) h
           (again-letters (LetterIs x.c s.client.send.iss) x sound h.letters n);
-      ends = λ m told. absurd (never m.bytes m.was);
+      ends = λ back m told was. absurd (never m.bytes m.was);
+      leaves = λ b t m at back. absurd (none-here b t at);
     }
 
-    rule-early : (g : NodeGets) → IsInItsEpoch env p g → NodeComes x n epoch heads g → IsEarlySo (grown x (node_goes x n env heads g)) s
+    rule-early : (g : NodeGets) → IsOfItsEpoch env p g → NodeComes x n epoch heads g → IsEarlySo (grown x (node_goes x n env heads g)) s
     rule-early g at comes = let e = node-keeps env p (NodeComes x n epoch heads) Early rules_early g at comes in
         record { front = e.front; nodes = e.nodes; letters = e.letters }
 
@@ -243,7 +245,7 @@ module _ (k : Setting) (small : k.stream ≤ 2 ^ 30) where
   node-rules = each-node k Keeps (record {
     does = λ x n epoch env heads g is at comes help h.
         by-early x (node_goes x n env heads g) (node-station x n heads (node.node_rule env (x.part.nodes n) g))
-        (λ s there open_ una e. rule-early x n epoch env heads help.sound s e g at comes) h;
+        (λ s there open_ una e. rule-early x n epoch env heads help.sound s e g at.0 comes) h;
     aside = λ x n a may. stands-rule x (Node n) (aside_seen n a) (aside_said k n x.c a) (λ c isn. aside-letters (LetterIs c isn) (λ n to bytes. tt) k x n a);
   })
 

@@ -1,5 +1,6 @@
 -- Of an open client which is not established nothing is known but its SYN, in every run.
-use Rattle.std.proofs.Common.{◌≡◌, ◌<◌, ◌^◌, ℕ, Bool, true, false, List, [], ◌∷◌, Option, Some, None, refl, sym, ap, ◌∙◌, arith}
+use Rattle.std.proofs.Common.{◌≡◌, ◌<◌, ◌≤◌, ◌^◌, ℕ, Bool, true, false, List, [], ◌∷◌, Option, Some, None, refl, sym, ap, ◌∙◌, arith}
+use Rattle.lard_base.proofs.Usable.{usable}
 use Rattle.lard_law_view.specs.Prelude.{Client, Conn, FilesAt, Front, IsReply, Letter, Node, Place, Said, Setting, Station, Talk, ToClient, Untouched, decoded, double_word_at, seq_add, seq_offset, setting, spelled, with_leaving}
 use Rattle.lard_law_connections.specs.BytesAgreement.{IsFair, IsFairOn, IsOpen, IsTruthful}
 use Rattle.lard_law_connections.proofs.BytesClientMoves.{open-at}
@@ -70,8 +71,9 @@ by-truth files x truth h = go x.part.station refl h where
 
 -- In every state that events lead to.
 pub stays-early : OpenClientsSentTheirSyn
-stays-early config files small m r q untouched =
+stays-early config files checked m r q untouched =
     let k : Setting = setting config files in
-    by-truth k.files _ (states-truthful config files small m r q untouched)
+    let small : k.stream ≤ 2 ^ 30 = (usable config checked).stream in
+    by-truth k.files _ (states-truthful config files checked m r q untouched)
     (carried config files (Given k small) (Untouched IsEarlyIn) (λ l. untouched-law (with_leaving k l) (Given k small) IsEarlyIn (early-law (with_leaving k l) small))
-    (λ m r q. (each-placed config files m r q, (states-truthful config files small m r q, (words-fit config files small m r q, clients-start config files small m r q)))) m r q untouched)
+    (λ m r q. (each-placed config files checked m r q, (states-truthful config files checked m r q, (words-fit config files checked m r q, clients-start config files checked m r q)))) m r q untouched)

@@ -92,9 +92,9 @@ by-truth files x truth h = go x.part.station refl where
 
 -- In every state that events lead to.
 pub refusals-answer : RefusalsAnswer
-refusals-answer config files small m r q untouched =
+refusals-answer config files checked m r q untouched =
     let k : Setting = setting config files in
-    by-truth k.files _ (states-truthful config files small m r q untouched) (carried config files Nothing RepliesAre (λ l. replies-law (with_leaving k l)) (λ n s p. tt) m r q)
+    by-truth k.files _ (states-truthful config files checked m r q untouched) (carried config files Nothing RepliesAre (λ l. replies-law (with_leaving k l)) (λ n s p. tt) m r q)
 
 -- ---- by the law of acknowledgements
 

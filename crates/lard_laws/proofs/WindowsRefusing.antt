@@ -211,14 +211,14 @@ module _ (k : Setting) where
         go (node.Does given) told own = grows x (node_does x n heads (node.Does given)) (goes-out x (Node n) tt given.1.segments given.1.messages told.1.1 own) h
 
   given-any : (x : Conn) (env : NodeEnv) (p : NodePart) (g : node.NodeGets) → nodes.Given env AnyBlock AnyBlock AnyBlock Anything (Says x.c x.letters) (says-kept x.c x.letters env.serve) p g
-  given-any x env p (node.Offered parts) = λ new. tt
+  given-any x env p (node.Offered parts) = (any-node p, λ new. tt)
   given-any x env p (node.Forwarded given) = (any-node p, λ s e. tt)
   given-any x env p _ = any-node p
 
   node-rules : NodeRules k Keeps
   node-rules = each-node k Keeps (record {
     does = λ x n epoch env heads g is at comes may own. node-rule x n epoch env heads (node.node_rule env (x.part.nodes n) g) is
-        (nodes.rule-has env AnyBlock AnyBlock AnyBlock Anything (Says x.c x.letters) (says-kept x.c x.letters env.serve) (x.part.nodes n) g at
+        (nodes.rule-has env AnyBlock AnyBlock AnyBlock Anything (Says x.c x.letters) (says-kept x.c x.letters env.serve) (x.part.nodes n) g at.0
         (given-any x env (x.part.nodes n) g)) own.messages;
     aside = λ x n a there may own h. grows x (stands x (Node n) (aside_seen n a) (aside_said k n x.c a))
         (aside-letters (LetterIs x.c x.letters) (λ n to bytes. tt) k x n a) h;

@@ -4,6 +4,7 @@ use Rattle.lard_law_connections.specs.BytesAgreement.{IsTruthful}
 use Rattle.lard_law_connections.proofs.BytesRuns.{states-truthful}
 use Rattle.lard_law_connections.proofs.PlacesRuns.{each-placed}
 use Rattle.lard_law_connections.proofs.PlacesTurns.{IsPlaced}
+use Rattle.lard_base.proofs.Usable.{usable}
 use Rattle.lard_law_view.specs.Prelude.{Conn, IsUntouchedLaw, MayRestOn, Move, Setting, Untouched, UntouchedRules, grown, nothing_said, packet_seen, setting, tale_at, with_leaving}
 use Rattle.lard_law_view.proofs.Carried.{carried}
 use Rattle.lard_law_view.proofs.Fine.{IsFine, fine}
@@ -51,7 +52,8 @@ module _ (k : Setting) (small : k.stream ≤ 2 ^ 30) where
 
 -- In every state that events lead to.
 pub windows-reach : WindowsReach
-windows-reach config files small =
+windows-reach config files checked =
     let k : Setting = setting config files in
+    let small : k.stream ≤ 2 ^ 30 = (usable config checked).stream in
     carried config files (Given k small) (Untouched IsReaching) (λ l. untouched-law (with_leaving k l) (Given k small) IsReaching (reaching-law (with_leaving k l) small))
-    (λ m r q. (each-placed config files m r q, states-truthful config files small m r q))
+    (λ m r q. (each-placed config files checked m r q, states-truthful config files checked m r q))

@@ -1,6 +1,7 @@
 -- Each rule keeps that the segments of a client fit it, so it is in every run.
 use Rattle.std.proofs.Common.{◌≡◌, ◌≤◌, ◌^◌, ℕ, false, List, [], ◌∷◌, ◌++◌, map, Option, Some, None, Result, Ok, refl, sym, ap, ◌∙◌, subst, arith}
-use Rattle.lard_law_view.specs.Prelude.{Client, ClientAgrees, ClientBlock, ClientFires, ClientGets, ClientReceives, ClientRules, Config, Conn, Front, FrontRules, Has, HasRule, IsConnNumber, IsConnSound, IsMachine, IsUntouchedLaw, Letter, MayRestOn, Move, Node, NodeRules, OfEach, Part, Place, Said, Seen, SegFault, Setting, Station, ToAbort, ToCluster, ToGet, ToHold, ToShut, ToTake, ToWrite, Turn, Untouched, UntouchedRules, client_begins, client_does, client_gets, client_opened, client_opens, client_rule, decoded, grown, letter, letters_of, nothing_said, packet_seen, request, setting, stands, tale_at, with_leaving}
+use Rattle.lard_base.proofs.Usable.{usable}
+use Rattle.lard_law_view.specs.Prelude.{Client, ClientAgrees, ClientBlock, ClientFires, ClientGets, ClientReceives, ClientRules, Config, Conn, Front, FrontRules, Has, HasRule, IsConnNumber, IsConnSound, IsMachine, IsUntouchedLaw, Letter, MayRestOn, Move, Node, NodeRules, OfEach, Part, Place, Said, Seen, SegFault, Setting, Station, ToAbort, ToCluster, ToGet, ToHold, ToShut, ToTake, ToWrite, Turn, Untouched, UntouchedRules, client_begins, client_does, client_gets, client_opened, client_opens, client_rule, config_check, decoded, grown, letter, letters_of, nothing_said, packet_seen, request, setting, stands, tale_at, with_leaving}
 use Rattle.lard_base.specs.declared.event.Event.TheVariants as event
 use Rattle.lard_law_connections.specs.BytesAgreement.{IsTruthful}
 use Rattle.lard_law_connections.proofs.BytesClientMoves.{open-at}
@@ -203,13 +204,14 @@ module _ (k : Setting) (small : k.stream ≤ 2 ^ 30) where
   fitting-law = record { begins = λ c. (tt, tt); moves = untouched-weaker k Keeps Wanted wanted keeps }
 
 -- In every state that events lead to.
-all-fits : (config : Config) (files : List (List ℕ × List ℕ)) → config.stream ≤ 2 ^ 30 → OfEach config files (Untouched All)
-all-fits config files small =
+all-fits : (config : Config) (files : List (List ℕ × List ℕ)) → config_check config ≡ Ok tt → OfEach config files (Untouched All)
+all-fits config files checked =
     let k : Setting = setting config files in
-    carried config files (Given k small) (Untouched All) (λ l. untouched-law (with_leaving k l) (Given k small) All (fitting-law (with_leaving k l) small)) (states-truthful config files small)
+    let small : k.stream ≤ 2 ^ 30 = (usable config checked).stream in
+    carried config files (Given k small) (Untouched All) (λ l. untouched-law (with_leaving k l) (Given k small) All (fitting-law (with_leaving k l) small)) (states-truthful config files checked)
 
 pub words-fit : WordsFit
-words-fit config files small m r q untouched = (all-fits config files small m r q untouched).0
+words-fit config files checked m r q untouched = (all-fits config files checked m r q untouched).0
 
 pub clients-start : ClientsStart
-clients-start config files small m r q untouched = (all-fits config files small m r q untouched).1
+clients-start config files checked m r q untouched = (all-fits config files checked m r q untouched).1

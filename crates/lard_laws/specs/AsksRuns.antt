@@ -6,7 +6,7 @@ use Rattle.lard_laws.specs.AsksSent.{MustAsk}
 
 -- Each step assigns what the Ask that comes in it lets it assign, and sends the Tags that are due.
 abbrev pub AsksAreAnswered : Type 0
-AsksAreAnswered = (config : Config) (files : List (List ℕ × List ℕ)) (m : Machine) → IsReached config files m → EachStep MustAnswer [] (steps m.journal)
+AsksAreAnswered = (config : Config) (files : List (List ℕ × List ℕ)) (m : Machine) → config_check config ≡ Ok tt → IsReached config files m → EachStep MustAnswer [] (steps m.journal)
 
 -- And it ends the batch before where shares were open, with a configuration that may be used.
 abbrev pub BatchesEndInSteps : Type 0
@@ -14,4 +14,4 @@ BatchesEndInSteps = (config : Config) (files : List (List ℕ × List ℕ)) (m :
 
 -- Each Ask that a node sends is the next of its connection and epoch, with the jobs that the journal counts, or the last one again.
 abbrev pub AsksGoOnInSteps : Type 0
-AsksGoOnInSteps = (config : Config) (files : List (List ℕ × List ℕ)) (m : Machine) → IsReached config files m → EachStep MustAsk [] (steps m.journal)
+AsksGoOnInSteps = (config : Config) (files : List (List ℕ × List ℕ)) (m : Machine) → config_check config ≡ Ok tt → IsReached config files m → EachStep MustAsk [] (steps m.journal)

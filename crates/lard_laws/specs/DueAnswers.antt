@@ -1,7 +1,7 @@
 -- What a node asked for and has not got, of one connection between any two steps: it was sent, and no answer to it came behind that.
-use Rattle.std.specs.Prelude.{◌≡◌, ℕ, List, [], ◌∷◌, Option, Some, None}
+use Rattle.std.specs.Prelude.{◌≡◌, ℕ, List, [], ◌∷◌, Option, Some, None, Ok}
 use Rattle.std.specs.List.{AllByRecursion}
-use Rattle.lard_law_view.specs.Prelude.{BackConn, BackRow, Config, Conn, FilesAt, Kept, NodePart, OfEach, Seen, Stay, fetch_kept, file_at, named_paths}
+use Rattle.lard_law_view.specs.Prelude.{BackConn, BackRow, Config, Conn, FilesAt, Kept, NodePart, OfEach, Seen, Stay, config_check, fetch_kept, file_at, named_paths}
 use Rattle.lard_handoff_back.specs.declared.row.BackConn.TheVariants as back
 use Rattle.lard_laws.specs.Due.{AskIsOut, FetchIsOut}
 
@@ -39,4 +39,4 @@ AwaitsAnswers files x = (n : ℕ) → PartIsOut files x.seen n x.c (x.part.nodes
 
 -- Of each connection, in every state: what its nodes asked for was sent, and has not come.
 abbrev pub ConnectionsAwaitAnswers : Type 0
-ConnectionsAwaitAnswers = (config : Config) (files : List (List ℕ × List ℕ)) → OfEach config files (AwaitsAnswers (file_at files))
+ConnectionsAwaitAnswers = (config : Config) (files : List (List ℕ × List ℕ)) → config_check config ≡ Ok tt → OfEach config files (AwaitsAnswers (file_at files))

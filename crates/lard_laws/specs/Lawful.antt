@@ -77,7 +77,7 @@ pub record IsLawful (config : Config) (files : FilesAt) (J : List Rec) : Type 0 
   pub batches : EachMay (λ past r. MayShare (last_record past) (ledger config past) r) [] J
   pub loads : Throughout (AreLoadsCharged config) config J
   pub servers : Throughout AreServersTold config J
-  -- when a node is closed: in the step of its `drain`, where it was open, and nowhere else; and that some node stays open
+  -- when a node is closed: where it was open, as it is drained or a connection comes back from it, and nowhere else; and that some node stays open
   pub closings : EachStep MustClose [] (steps J)
   pub some_stays : Throughout (SomeStays config) config J
   -- how great a load may be, by the room and, while no node is closed, by the policy; and how many connections a node may have then

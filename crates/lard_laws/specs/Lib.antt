@@ -23,8 +23,6 @@ pub mod BackingRuns
 pub mod Sizes
 pub mod TagsLaws
 pub mod Tags
-pub mod Past
-pub mod PastLaws
 pub mod OriginsLaws
 pub mod Acks
 pub mod AcksLaws

@@ -1,6 +1,6 @@
 -- When nothing more comes of a connection that a place of the cluster has, as far as its two ends go; and that it is complete then.
-use Rattle.std.specs.Prelude.{◌≡◌, ◌⊎◌, ℕ, ◌≤◌, true, false, List, Some}
-use Rattle.lard_law_view.specs.Prelude.{BackRow, Config, Conn, ControlBlock, FrontRow, IsComplete, IsReached, MAX_STREAM_BYTES, Machine, Station, Stay, conn, file_at, has_aborted, is_clear, is_client_armed, is_touched, was_reset}
+use Rattle.std.specs.Prelude.{◌≡◌, ◌⊎◌, ℕ, true, false, List, Some, Ok}
+use Rattle.lard_law_view.specs.Prelude.{BackRow, Config, Conn, ControlBlock, FrontRow, IsComplete, IsReached, Machine, Station, Stay, config_check, conn, file_at, has_aborted, is_clear, is_client_armed, is_touched, was_reset}
 use Rattle.lard_law_connections.specs.Stops.{FirstIsAwaited}
 use Rattle.lard_handoff_back.specs.declared.row.BackConn.TheVariants as back
 use Rattle.lard_handoff_front.specs.declared.row.FrontConn.TheVariants as stage
@@ -36,6 +36,6 @@ RestsSomewhere x = HeldRests x ⊎ ((n : ℕ) × StayRests x n)
 -- Where both ends rest and a place has the connection, it is complete, unless its client aborted it, the stream limit reset it, or
 -- the schedule touched it.
 abbrev pub RestingIsComplete : Type 0
-RestingIsComplete = (config : Config) (files : List (List ℕ × List ℕ)) (m : Machine) → config.stream ≤ MAX_STREAM_BYTES → IsReached config files m
+RestingIsComplete = (config : Config) (files : List (List ℕ × List ℕ)) (m : Machine) → config_check config ≡ Ok tt → IsReached config files m
     → (c : ℕ) → is_touched m.journal c ≡ false → has_aborted m.journal c ≡ false → was_reset m.journal c ≡ false
     → ClientRests (conn m c) → RestsSomewhere (conn m c) → IsComplete (file_at files) m.journal c

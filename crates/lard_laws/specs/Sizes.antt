@@ -1,7 +1,7 @@
 -- How many requests the batch of an Ask has, and which they are, in words of the journal.
 use Rattle.std.specs.Prelude.{◌≡◌, ℕ, ◌+◌, ◌-◌, ◌*◌, ◌/◌, ◌<◌, ◌≤◌, min, nat_eq, nat_lt, if◌then◌else◌, false, List, [], ◌∷◌, ◌++◌, length, take, drop, Option, Some, None, Ok}
 use Rattle.std.specs.List.{AllByRecursion, fold}
-use Rattle.lard_law_view.specs.Prelude.{Body, Client, Config, EachStep, FilesAt, Front, IsReached, MAX_STREAM_BYTES, Machine, Message, Node, Numbers, Place, Rec, Said, Verdict, decoded_message, file_at, is_opening, is_touched, numbers_of, owner, seq_offset, served, served_step, steps, verdicts, wrote}
+use Rattle.lard_law_view.specs.Prelude.{Body, Client, Config, EachStep, FilesAt, Front, IsReached, Machine, Message, Node, Numbers, Place, Rec, Said, Verdict, config_check, decoded_message, file_at, is_opening, is_touched, numbers_of, owner, seq_offset, served, served_step, steps, verdicts, wrote}
 use Rattle.lard_law_connections.specs.Line.{line_step, nobody}
 use Rattle.lard_law_connections.specs.Offers.{WasSentBetween}
 use Rattle.lard_laws.specs.Ways.{good_paths}
@@ -137,7 +137,7 @@ MayAsk files past step _ = Unit {0}
 abbrev pub MustSize : FilesAt → List Rec → List Rec → Type 0
 MustSize files past step = AllByRecursion (MayAsk files past step) step
 
--- In every run, where the stream limit is within what one direction of a connection carries.
+-- In every run, with a configuration that may be used.
 abbrev pub BatchesHaveTheirSize : Type 0
-BatchesHaveTheirSize = (config : Config) (files : List (List ℕ × List ℕ)) (m : Machine) → config.stream ≤ MAX_STREAM_BYTES → IsReached config files m
+BatchesHaveTheirSize = (config : Config) (files : List (List ℕ × List ℕ)) (m : Machine) → config_check config ≡ Ok tt → IsReached config files m
     → EachStep (MustSize (file_at files)) [] (steps m.journal)

@@ -1,7 +1,10 @@
 -- What is so in every state of a run of the cluster's machine, of all connections at once.
 use Rattle.std.specs.Prelude.{◌≡◌, ℕ, List}
 use Rattle.lard_law_view.specs.Prelude.{ActsInPlace, Config, Event, Follows, IsNetOf, IsNetwork, IsReached, KeepsTime, Machine, Passes, answered_bytes, machine_start}
-pub use Rattle.lard_law_connections.specs.PlacesLaws.{Always}
+
+-- it is so in every state that events lead to
+abbrev pub Always : (Machine → Type 0) → Type 0
+Always P = (config : Config) (files : List (List ℕ × List ℕ)) (m : Machine) → IsReached config files m → P m
 
 abbrev pub SettingsStay : Type 0
 SettingsStay = (config : Config) (files : List (List ℕ × List ℕ)) (m : Machine) → IsReached config files m → (m.config ≡ config) × (m.files ≡ files)

@@ -17,7 +17,7 @@ ghost use Rattle.lard_laws.specs.EndedLaws.{ConnectionsWereClosed};
 ghost use Rattle.lard_laws.specs.Formed.{RecordsHavePathsAndBytes};
 ghost use Rattle.lard_laws.specs.Lawful.{JournalsAreLawful};
 ghost use Rattle.lard_laws.specs.OriginsLaws.{JobsComeFromHome};
-ghost use Rattle.lard_laws.specs.PastLaws.{ConnectionsGoToNew, EachEndIsOfItsStay, EachEpochIsOfOneNode, FirstsAreOpen, PastIsClosed};
+ghost use Rattle.lard_law_connections.specs.PastLaws.{ConnectionsGoToNew, EachEndIsOfItsStay, EachEpochIsOfOneNode, FirstsAreOpen, PastIsClosed};
 ghost use Rattle.lard_laws.specs.Quiet.{JournalsComplete};
 ghost use Rattle.lard_laws.specs.QuietRests.{RestingIsComplete};
 ghost use Rattle.lard_laws.specs.QuietStill.{QuietIsCompleteOrElse};
@@ -223,9 +223,9 @@ pub fn tags_name_nodes()
     ensures { ConnectionsNameNodes }
 {}
 
-/// In every run of the cluster's machine, and also of connections that the schedule touched: each job of a disk is for a node that
-/// decided its connection in the epoch of the job, or in a later one. So while a node has the connection in that epoch, the job is for
-/// that node.
+/// In every run of the cluster's machine, with a configuration that may be used, and also of connections that the schedule touched:
+/// each job of a disk is for a node that decided its connection in the epoch of the job, or in a later one. So while a node has the
+/// connection in that epoch, the job is for that node.
 pub fn jobs_come_from_home()
     ensures { JobsComeFromHome }
 {}

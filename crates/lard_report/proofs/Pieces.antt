@@ -216,6 +216,7 @@ timer_kind_read timer.Offer = refl
 timer_kind_read timer.Ask = refl
 timer_kind_read timer.Fetch = refl
 timer_kind_read timer.Ended = refl
+timer_kind_read timer.Give = refl
 
 bytes_read : (bytes : List ℕ) → IsSomeBytes bytes → some_bytes_of (encode_lower bytes) ≡ Some bytes
 bytes_read bytes fits = some_bytes_read (encode_lower bytes) bytes (decode_of-encode_lower bytes fits.0) fits.1

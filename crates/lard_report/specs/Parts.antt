@@ -37,14 +37,15 @@ via_of word =
     else (if bytes_eq word (codes "cache") then Some via.Cache
     else (if bytes_eq word (codes "disk") then Some via.Disk else far_via_of word))
 
--- tcp, offer, ask, fetch, ended
+-- tcp, offer, ask, fetch, ended, give
 unfoldable pub timer_kind_of : List ℕ → Option TimerKind
 timer_kind_of word =
     if bytes_eq word (codes "tcp") then Some timer.Tcp
     else (if bytes_eq word (codes "offer") then Some timer.Offer
     else (if bytes_eq word (codes "ask") then Some timer.Ask
     else (if bytes_eq word (codes "fetch") then Some timer.Fetch
-    else (if bytes_eq word (codes "ended") then Some timer.Ended else None))))
+    else (if bytes_eq word (codes "ended") then Some timer.Ended
+    else (if bytes_eq word (codes "give") then Some timer.Give else None)))))
 
 -- ---- the next word
 

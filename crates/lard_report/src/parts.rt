@@ -79,7 +79,7 @@ fn far_via_in(word: &[u8]) -> Option<Via>
     }
 }
 
-/// The kind of a timer: `tcp`, `offer`, `ask`, `fetch` or `ended`.
+/// The kind of a timer: `tcp`, `offer`, `ask`, `fetch`, `ended` or `give`.
 #[tactic(auto, unfolding(crate::specs::Parts::timer_kind_of))]
 fn timer_kind_in(word: &[u8]) -> Option<TimerKind>
     ensures { result ≡ timer_kind_of word.now }
@@ -98,6 +98,9 @@ fn timer_kind_in(word: &[u8]) -> Option<TimerKind>
     }
     if is(word, "ended") {
         return Some(TimerKind::Ended);
+    }
+    if is(word, "give") {
+        return Some(TimerKind::Give);
     }
     None
 }

@@ -2,7 +2,7 @@
 use Rattle.std.specs.Prelude.{◌≡◌, ℕ, ◌+◌, Bool, true, ◌==◌, nat_lt, not, ◌&&◌, List, [], ◌∷◌, insert, filter, if◌then◌else◌}
 use Rattle.std.specs.List.{AllByRecursion}
 use Rattle.lard_base.specs.declared.place.TimerKind.{TimerKind}
-use Rattle.lard_base.specs.declared.place.TimerKind.TheVariants.{Tcp, Offer, Ask, Fetch, Ended}
+use Rattle.lard_base.specs.declared.place.TimerKind.TheVariants.{Tcp, Offer, Ask, Fetch, Ended, Give}
 use Rattle.lard_resend.specs.declared.kept.Kept.{Kept}
 
 -- the order of kinds
@@ -12,6 +12,7 @@ kind_rank Offer = 1
 kind_rank Ask = 2
 kind_rank Fetch = 3
 kind_rank Ended = 4
+kind_rank Give = 5
 
 abbrev pub is_under : TimerKind → ℕ → Kept → Bool
 is_under kind r k = kind_rank k.kind == kind_rank kind && k.r == r

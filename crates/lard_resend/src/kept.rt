@@ -35,6 +35,7 @@ pub fn rank(kind: TimerKind) -> u8
         TimerKind::Ask => 2,
         TimerKind::Fetch => 3,
         TimerKind::Ended => 4,
+        TimerKind::Give => 5,
     }
 }
 

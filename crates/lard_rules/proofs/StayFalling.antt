@@ -116,7 +116,10 @@ read_falls env w u e h = go (batch_of 8 unread) refl h where
 
 turn_falls : (env : NodeEnv) (w u : Work) (n : Next) → next_of w ≡ n → turned env w n ≡ More u → work_left u < work_left w
 turn_falls env w u Serve e h = let s : stay_serves env w ≡ u = cc in omega (arith, serve_falls env w e, ap work_left s)
-turn_falls env w u Read e h = read_falls env w u e h
+turn_falls env w u Read e h = go env.leaving h where
+  go : (b : Bool) → cond b (Done w) (reads_batch env false w) ≡ More u → work_left u < work_left w
+  go true is = absurd (let f : Done w ≡ More u = is in cc)
+  go false is = read_falls env w u e is
 turn_falls env w u Stop e h = absurd (let f : Done w ≡ More u = h in cc)
 
 pub falls : (env : NodeEnv) (w u : Work) → stay_turn env w ≡ More u → work_left u < work_left w

@@ -60,7 +60,7 @@ module _ (env : NodeEnv) (P : Work → Type 0) (kept : KeptByStay env P) where
 
   -- the stay goes on
   pub by_going : KeptByGoing env P P
-  by_going = record { reads = λ w none may h. batch-in false w none h; serves = kept.serves; stops = λ w may h. h }
+  by_going = record { reads = λ w none may h. batch-in false w none h; serves = kept.serves; stops = λ w may h. h; holds = λ w leaves none may h. h }
 
   pub goes-keep : (w : Work) → P w → P (goes_on env w)
   goes-keep w h = goes-in env P P by_going w h
@@ -124,7 +124,7 @@ module _ (env : NodeEnv) (P : Work → Type 0) (kept : KeptByTurning env P) wher
       these-in env Quiet P P false used w vs (quiet_reads (length vs)) none (λ e. kept.ends (record w { service = serving_consumed used w.service }) none taken) (λ v us e. (refl, taken))
 
   pub turning-keeps : (w : Work) → P w → P (goes_on env w)
-  turning-keeps w h = goes-in env P P (record { reads = λ w none may h. turning-in w none h; serves = kept.serves; stops = λ w may h. h }) w h
+  turning-keeps w h = goes-in env P P (record { reads = λ w none may h. turning-in w none h; serves = kept.serves; stops = λ w may h. h; holds = λ w leaves none may h. h }) w h
 
 -- ---- what looks at the service and the jobs alone
 

@@ -104,12 +104,13 @@ these-in env E P D here used w (v ∷ vs) kept none ends takes = all-asked env (
 -- ---- turn by turn
 
 -- P is kept by each turn: where no request is left the next batch is read, and the first is served once it is ready. Where the stay stops,
--- since the first is not ready, nothing may be read, or nothing came, D is so.
+-- since the first is not ready, nothing may be read, nothing came, or the node leaves, D is so.
 pub record KeptByGoing (env : NodeEnv) (P D : Work → Type 0) : Type 0 where
   pub reads : (w : Work) → w.batch ≡ [] → may_read w.service ≡ true → P w → StepIn P D (reads_batch env false w)
   pub serves : (way : Via) (e : Entry) (rest : List Entry) (w : Work) → may_read w.service ≡ true → w.batch ≡ e ∷ rest → e.progress ≡ progress.Ready way → P w
       → P (serves_with (answered env.serve way e.verdict w.service) e rest w)
   pub stops : (w : Work) → (may_read w.service ≡ true → next_in w.batch ≡ next.Stop) → P w → D w
+  pub holds : (w : Work) → env.leaving ≡ true → w.batch ≡ [] → may_read w.service ≡ true → P w → D w
 
 module _ (env : NodeEnv) (P D : Work → Type 0) (kept : KeptByGoing env P D) where
   serves-by-in : (e : Entry) (rest : List Entry) (w : Work) (p : Progress) → e.progress ≡ p → may_read w.service ≡ true → w.batch ≡ e ∷ rest → P w → P (serves_by env e rest w p)
@@ -122,7 +123,8 @@ module _ (env : NodeEnv) (P D : Work → Type 0) (kept : KeptByGoing env P D) wh
 
   turned-in : (w : Work) (n : Next) → next_in w.batch ≡ n → may_read w.service ≡ true → P w → StepIn P D (turned env w n)
   turned-in w next.Serve is may h = serves-first-in w w.batch refl may h
-  turned-in w next.Read is may h = kept.reads w (none-left w.batch is) may h
+  turned-in w next.Read is may h = cond_both env.leaving (Done w) (reads_batch env false w) (StepIn P D)
+      (λ leaves. kept.holds w leaves (none-left w.batch is) may h) (λ stays. kept.reads w (none-left w.batch is) may h)
   turned-in w next.Stop is may h = kept.stops w (λ m. is) h
 
   turn-in : (w : Work) → P w → StepIn P D (stay_turn env w)
@@ -158,6 +160,7 @@ both-going env P Q kept given = record {
   reads = λ w none may h. let p : StepIn P P (reads_batch env false w) = kept.reads w none may h.0 in both-in P Q (reads_batch env false w) p (given.reads w none may h.0 h.1 p);
   serves = λ way e rest w may first is h. (kept.serves way e rest w may first is h.0, given.serves way e rest w may first is h.0 h.1);
   stops = λ w may h. h;
+  holds = λ w leaves none may h. h;
 }
 
 -- ---- a Tag comes

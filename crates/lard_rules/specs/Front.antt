@@ -423,6 +423,7 @@ front_armed p kind.Offer = list_any (λ x. kind_rank x.kind == kind_rank kind.Of
 front_armed p kind.Ask = false
 front_armed p kind.Fetch = false
 front_armed p kind.Ended = false
+front_armed p kind.Give = false
 
 -- ---- the rules as data
 

@@ -10,12 +10,13 @@ use Rattle.lard_endpoint.specs.declared.control.moving.Final.{Final}
 use Rattle.lard_endpoint.specs.Arriving.{on_segment}
 use Rattle.lard_endpoint.specs.Control.{ControlBlock}
 use Rattle.lard_endpoint.specs.Leaving.{timed, after_timer}
-use Rattle.lard_endpoint.specs.Moving.{adopted}
+use Rattle.lard_endpoint.specs.Moving.{adopted, may_freeze, parts_of}
 use Rattle.lard_handoff_back.specs.declared.row.BackConn.TheVariants as stage
 use Rattle.lard_handoff_back.specs.declared.row.BackRow.{BackRow}
 use Rattle.lard_handoff_back.specs.declared.table.Adopt.{Adopt}
 use Rattle.lard_handoff_back.specs.declared.table.Adopt.TheVariants.{New, Again, Stale, Refuse}
-use Rattle.lard_handoff_back.specs.Back.{awaits_ack, back_endpoint, offer_answer, staying}
+use Rattle.lard_handoff_back.specs.Back.{back_endpoint, staying}
+use Rattle.lard_handoff_back.specs.Leaving.{awaits_ended, awaits_given, offer_decision}
 use Rattle.lard_handoff_back.specs.Table.{Beside}
 use Rattle.lard_journal.specs.declared.rec.Rec.{Rec}
 use Rattle.lard_journal.specs.declared.rec.Rec.TheVariants as rec
@@ -24,11 +25,13 @@ use Rattle.lard_message.specs.declared.message.Body.{Body}
 use Rattle.lard_message.specs.declared.message.Body.TheVariants as body
 use Rattle.lard_rules.specs.declared.node.NodeTurn.{NodeTurn}
 use Rattle.lard_rules.specs.declared.stay.Asked.{Asked}
+use Rattle.lard_rules.specs.declared.stay.Next.{Next}
+use Rattle.lard_rules.specs.declared.stay.Next.TheVariants as next
 use Rattle.lard_rules.specs.declared.stay.Stay.{Stay}
 use Rattle.lard_rules.specs.declared.stay.Want.{Want}
 pub use Rattle.lard_rules.specs.Front.{message}
 use Rattle.lard_rules.specs.Loop.{state_of}
-use Rattle.lard_rules.specs.Stay.{NodeEnv, Work, came_for, come_progress, goes_on, named_paths, read_progress, reads_batch, tagged}
+use Rattle.lard_rules.specs.Stay.{NodeEnv, Work, came_for, come_progress, goes_on, named_paths, next_of, read_progress, reads_batch, tagged}
 use Rattle.lard_resend.specs.declared.kept.Kept.{Kept}
 pub use Rattle.lard_resend.specs.Kept.{anew}
 use Rattle.lard_resend.specs.Kept.{is_under, kind_rank, without}
@@ -46,7 +49,7 @@ use Rattle.lard_send.specs.Send.{is_clear}
 pub record NodePart : Type 0 where
   pub row : Option BackRow
   pub stay : Option Stay
-  pub kept : List Kept  -- its Ask or its Ended, where one awaits its answer
+  pub kept : List Kept  -- its Ask, its Ended or its Give, where one awaits its answer
   pub fetches : List Kept  -- those whose contents are awaited, by the numbers of their requests
   pub beside : Beside  -- what the node decided of it since it leaves
 
@@ -147,6 +150,45 @@ turn_by env before w given = record {
 abbrev pub node_rests : NodeEnv → NodePart → List (Place × List ℕ) → Work → NodePart × NodeTurn
 node_rests env p before w = (kept_after env p w (serving_settled env.serve w.service).0, turn_by env before w (serving_settled env.serve w.service))
 
+-- ---- a node that leaves
+
+-- nothing that was read awaits its answer, and a batch may be read
+abbrev pub is_to_read : Next → Bool
+is_to_read next.Serve = false
+is_to_read next.Read = true
+is_to_read next.Stop = false
+
+-- A node that leaves would read a batch, and the client acknowledged all that was said: the connection goes back to the front end.
+abbrev pub may_give_back : NodeEnv → Work → Bool
+may_give_back env w = env.leaving && (is_to_read (next_of w) && may_freeze w.service.block)
+
+abbrev pub give_kept : NodeEnv → Work → Kept
+give_kept env w = record { kind = kind.Give; r = 0; to = place.Front; bytes = message env.serve.c env.epoch (body.Give (parts_of w.service.block w.service.count)) }
+
+-- Its stay is over, and stands as given back; the Give is told until it is answered.
+abbrev pub kept_back : NodeEnv → NodePart → Work → NodePart
+kept_back env p w = record {
+  row = Some (record { stage = stage.Ended; epoch = record { 0 = env.epoch } });
+  stay = None;
+  kept = give_kept env w ∷ [];
+  fetches = [];
+  beside = record p.beside { returned = Some w.service.count };
+}
+
+-- the endpoint is frozen before it says anything
+abbrev pub turn_back : NodeEnv → List (Place × List ℕ) → Work → NodeTurn
+turn_back env before w = record {
+  notes = w.service.notes;
+  segments = [];
+  gave = rec.Gave (place.Node env.n) env.serve.c (record { 0 = env.epoch }) ∷ [];
+  messages = all_sent env before w ++ sent_of (give_kept env w) ∷ [];
+  jobs = w.jobs;
+  answered = w.service.answered;
+}
+
+abbrev pub gives_back : NodeEnv → NodePart → List (Place × List ℕ) → Work → NodeDeed
+gives_back env p before w = Does (kept_back env p w, turn_back env before w)
+
 -- ---- the rules of a stay
 
 -- the endpoint and the stay, where the connection is here
@@ -162,11 +204,15 @@ here epoch p = both_of (staying epoch p.row) p.stay
 abbrev pub with_work : NodeEnv → NodePart → List (Place × List ℕ) → Work → NodeDeed
 with_work env p before w = Does (node_rests env p before w)
 
+-- a turn ends: the connection goes back, or rests
+abbrev pub node_turns : NodeEnv → NodePart → List (Place × List ℕ) → Work → NodeDeed
+node_turns env p before w = if may_give_back env w then gives_back env p before w else with_work env p before w
+
 -- A segment that the front end forwarded comes to the endpoint. What does not decode is dropped.
 abbrev pub node_heard_by : NodeEnv → NodePart → Result Said SegFault → Option (ControlBlock × Stay) → NodeDeed
 node_heard_by env p (Err fault) x = Drops
 node_heard_by env p (Ok s) None = Drops
-node_heard_by env p (Ok s) (Some x) = with_work env p [] (goes_on env (work_of (on_segment x.0 s).1 x.1))
+node_heard_by env p (Ok s) (Some x) = node_turns env p [] (goes_on env (work_of (on_segment x.0 s).1 x.1))
 
 abbrev pub node_forwarded : NodeEnv → NodePart → Result Said SegFault → NodeDeed
 node_forwarded env p given = node_heard_by env p given (here env.epoch p)
@@ -179,7 +225,7 @@ abbrev pub tagged_by : NodeEnv → ℕ → List ℕ → NodePart → Option (Con
 tagged_by env number nodes p None = Drops
 tagged_by env number nodes p (Some x) =
     if is_tag_awaited env number nodes p x.1
-    then with_work env (record p { kept = without kind.Ask 0 p.kept }) [] (goes_on env (tagged env nodes (work_of x.0 x.1)))
+    then node_turns env (record p { kept = without kind.Ask 0 p.kept }) [] (goes_on env (tagged env nodes (work_of x.0 x.1)))
     else Drops
 
 abbrev pub node_tagged : NodeEnv → NodePart → ℕ → List ℕ → NodeDeed
@@ -191,7 +237,7 @@ abbrev pub come_by : NodeEnv → ℕ → ℕ → NodePart → Option (ControlBlo
 come_by env from r p None = Drops
 come_by env from r p (Some x) =
     if is_from from env.epoch (find (is_under kind.Fetch r) p.fetches)
-    then with_work env (record p { fetches = without kind.Fetch r p.fetches }) [] (goes_on env (came_for (come_progress from) r (work_of x.0 x.1)))
+    then node_turns env (record p { fetches = without kind.Fetch r p.fetches }) [] (goes_on env (came_for (come_progress from) r (work_of x.0 x.1)))
     else Drops
 
 abbrev pub node_content : NodeEnv → NodePart → ℕ → ℕ → NodeDeed
@@ -200,7 +246,7 @@ node_content env p from r = come_by env from r p (here env.epoch p)
 -- A job of this node's disk was completed for a request.
 abbrev pub node_read_by : NodeEnv → ℕ → NodePart → Option (ControlBlock × Stay) → NodeDeed
 node_read_by env r p None = Drops
-node_read_by env r p (Some x) = with_work env p [] (goes_on env (came_for read_progress r (work_of x.0 x.1)))
+node_read_by env r p (Some x) = node_turns env p [] (goes_on env (came_for read_progress r (work_of x.0 x.1)))
 
 abbrev pub node_read : NodeEnv → NodePart → ℕ → NodeDeed
 node_read env p r = node_read_by env r p (here env.epoch p)
@@ -209,6 +255,13 @@ node_read env p r = node_read_by env r p (here env.epoch p)
 
 abbrev pub taken_sent : NodeEnv → List (Place × List ℕ)
 taken_sent env = (place.Front, message env.serve.c env.epoch body.Taken) ∷ []
+
+abbrev pub refused_sent : NodeEnv → List (Place × List ℕ)
+refused_sent env = (place.Front, message env.serve.c env.epoch body.Refused) ∷ []
+
+-- what is kept once the Offer of this epoch is refused
+abbrev pub kept_refused : NodeEnv → NodePart → NodePart
+kept_refused env p = record p { beside = record p.beside { refused = Some (record { 0 = env.epoch }) } }
 
 -- The node takes a connection that is new to it, and goes on where the front end stopped: it reads the first batch, whose first
 -- request for a file was assigned to it with the connection.
@@ -231,10 +284,10 @@ abbrev pub offered_by : NodeEnv → EndpointParts → NodePart → Adopt → Nod
 offered_by env parts p New = with_work env p (taken_sent env) (goes_on env (state_of (reads_batch env true (node_begins env parts))))
 offered_by env parts p Again = Says (taken_sent env)
 offered_by env parts p Stale = Drops
-offered_by env parts p Refuse = Drops
+offered_by env parts p Refuse = Does (kept_refused env p, node_saying (refused_sent env))
 
 abbrev pub node_offered : NodeEnv → NodePart → EndpointParts → NodeDeed
-node_offered env p parts = offered_by env parts p (offer_answer env.epoch p.row)
+node_offered env p parts = offered_by env parts p (offer_decision env.leaving env.epoch p.row p.beside)
 
 -- ---- the end of a stay
 
@@ -242,13 +295,31 @@ abbrev pub gone : Option BackRow → Option BackRow
 gone None = None
 gone (Some row) = Some (record row { stage = stage.Gone })
 
--- The front end acknowledges the end: it is not told again.
-abbrev pub node_acknowledged : NodeEnv → NodePart → NodeDeed
-node_acknowledged env p = if awaits_ack env.epoch p.row then Does (record p { row = gone p.row; kept = without kind.Ended 0 p.kept }, node_saying []) else Drops
+-- what tells that a stay is over: that it ended, or the Give of the connection
+abbrev pub told_kind : Bool → TimerKind
+told_kind back = if back then kind.Give else kind.Ended
+
+-- its answer is awaited: an EndedAck, or a Given where the connection went back
+abbrev pub awaits_told : Bool → NodeEnv → NodePart → Bool
+awaits_told back env p = if back then awaits_given env.epoch p.row p.beside else awaits_ended env.epoch p.row p.beside
+
+-- The front end knows that the stay is over, and it is not told again.
+abbrev pub node_acknowledged : NodeEnv → Bool → NodePart → NodeDeed
+node_acknowledged env back p = if awaits_told back env p then Does (record p { row = gone p.row; kept = without (told_kind back) 0 p.kept }, node_saying []) else Drops
+
+-- ---- the node leaves
+
+-- a connection that is ready goes back
+abbrev pub goes_back_by : NodeEnv → NodePart → Option (ControlBlock × Stay) → NodeDeed
+goes_back_by env p None = Drops
+goes_back_by env p (Some x) = if may_give_back env (work_of x.0 x.1) then gives_back env p [] (work_of x.0 x.1) else Drops
+
+abbrev pub node_goes_back : NodeEnv → NodePart → NodeDeed
+node_goes_back env p = goes_back_by env p (both_of (back_endpoint p.row) p.stay)
 
 -- ---- timers
 
--- all that awaits an answer: while the connection is here its Ask and then the Fetches, by number; else its Ended
+-- all that awaits an answer: while the connection is here its Ask and then the Fetches, by number; else its Ended or its Give
 abbrev pub again_sent : NodePart → List (Place × List ℕ)
 again_sent p = map sent_of (p.kept ++ p.fetches)
 
@@ -279,24 +350,27 @@ node_armed p kind.Offer = false
 node_armed p kind.Ask = holds_kind kind.Ask p.kept
 node_armed p kind.Fetch = holds_kind kind.Fetch p.fetches
 node_armed p kind.Ended = holds_kind kind.Ended p.kept
+node_armed p kind.Give = holds_kind kind.Give p.kept
 
 -- ---- the rules as data
 
--- What comes to a node for a connection: a message, a completed job of its disk, or its timer.
+-- What comes to a node for a connection: a message, a completed job of its disk, its timer, or that the node leaves.
 pub data NodeGets : Type 0 where
   Offered : EndpointParts → NodeGets
   Forwarded : Result Said SegFault → NodeGets
   Tagged : ℕ → List ℕ → NodeGets
   Content : ℕ → ℕ → NodeGets  -- from this node, for this request
-  Acknowledged : NodeGets
+  Acknowledged : Bool → NodeGets  -- by EndedAck, or by Given
   Completed : ℕ → List ℕ → NodeGets  -- for this request, its path
   Fires : NodeGets
+  Leaves : NodeGets
 
 abbrev pub node_rule : NodeEnv → NodePart → NodeGets → NodeDeed
 node_rule env p (Offered parts) = node_offered env p parts
 node_rule env p (Forwarded given) = node_forwarded env p given
 node_rule env p (Tagged number nodes) = node_tagged env p number nodes
 node_rule env p (Content from r) = node_content env p from r
-node_rule env p Acknowledged = node_acknowledged env p
+node_rule env p (Acknowledged back) = node_acknowledged env back p
 node_rule env p (Completed r path) = node_read env p r
 node_rule env p Fires = node_timer env p
+node_rule env p Leaves = node_goes_back env p

@@ -1,6 +1,6 @@
 -- A node's step: it looks up what it keeps of the connection, does the rule of what came, puts it back, and tells its cache and its
 -- disk what the rule did.
-use Rattle.std.specs.Prelude.{ℕ, Bool, false, ◌==◌, if◌then◌else◌, List, [], ◌∷◌, ◌++◌, length, Option, Some, None, Result, Ok, Err}
+use Rattle.std.specs.Prelude.{ℕ, Bool, true, false, ◌==◌, if◌then◌else◌, List, [], ◌∷◌, ◌++◌, length, Option, Some, None, Result, Ok, Err}
 use Rattle.std.specs.FinMap as table
 use Rattle.std.specs.List.{flat_map, fold, list_any}
 use Rattle.lard_answers.specs.Answers.{FilesAt}
@@ -130,7 +130,8 @@ abbrev pub node_hears : NodeSetting → NodeState → Place → ℕ → ℕ → 
 node_hears k s place.Front c epoch (body.Offer parts) = node_deed k s c (node_offered (node_env k s c epoch) (node_part s c) parts)
 node_hears k s place.Front c epoch (body.Forward bytes) = node_deed k s c (node_forwarded (node_env k s c epoch) (node_part s c) (decoded bytes c ToCluster))
 node_hears k s place.Front c epoch (body.Tag number nodes) = node_deed k s c (node_tagged (node_env k s c epoch) (node_part s c) number nodes)
-node_hears k s place.Front c epoch body.EndedAck = node_deed k s c (node_acknowledged (node_env k s c epoch) (node_part s c))
+node_hears k s place.Front c epoch body.EndedAck = node_deed k s c (node_acknowledged (node_env k s c epoch) false (node_part s c))
+node_hears k s place.Front c epoch body.Given = node_deed k s c (node_acknowledged (node_env k s c epoch) true (node_part s c))
 node_hears k s (place.Node from) c epoch (body.Fetch r path) = fetched k s from c epoch r path (k.files path)
 node_hears k s (place.Node from) c epoch (body.Content r bytes) = node_deed k s c (node_content (node_env k s c epoch) (node_part s c) from r)
 node_hears k s _ c epoch _ = (s, nothing_done)

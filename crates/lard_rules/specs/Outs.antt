@@ -2,7 +2,7 @@
 use Rattle.std.specs.Prelude.{ℕ, Bool, true, false, List, [], ◌∷◌}
 use Rattle.lard_base.specs.declared.place.Place.{Place}
 use Rattle.lard_base.specs.declared.place.TimerKind.{TimerKind}
-use Rattle.lard_base.specs.declared.place.TimerKind.TheVariants.{Tcp, Offer, Ask, Fetch, Ended}
+use Rattle.lard_base.specs.declared.place.TimerKind.TheVariants.{Tcp, Offer, Ask, Fetch, Ended, Give}
 use Rattle.lard_journal.specs.declared.rec.Rec.{Rec}
 use Rattle.lard_journal.specs.declared.rec.Rec.TheVariants as rec
 use Rattle.lard_rules.specs.declared.places.Out.{Out}
@@ -17,7 +17,7 @@ kind_change p c kind true true = []
 
 -- the kinds, in the order in which their records stand
 abbrev pub timer_kinds : List TimerKind
-timer_kinds = Tcp ∷ Offer ∷ Ask ∷ Fetch ∷ Ended ∷ []
+timer_kinds = Tcp ∷ Offer ∷ Ask ∷ Fetch ∷ Ended ∷ Give ∷ []
 
 -- that of an endpoint or a client
 abbrev pub timer_change : Place → ℕ → Bool → Bool → List Rec

@@ -171,9 +171,10 @@ next_in (e ∷ rest) = next_by e.progress
 abbrev pub next_of : Work → Next
 next_of w = if may_read w.service then next_in w.batch else Stop
 
+-- A node that leaves reads no batch.
 abbrev pub turned : NodeEnv → Work → Next → Step Work
 turned env w Serve = More (stay_serves env w)
-turned env w Read = reads_batch env false w
+turned env w Read = if env.leaving then Done w else reads_batch env false w
 turned env w Stop = Done w
 
 abbrev pub stay_turn : NodeEnv → Work → Step Work

@@ -17,7 +17,7 @@ pub struct NodeState {
     pub conns: BackTable,
     /// What was read of each that is here.
     pub stays: Table<Stay>,
-    /// The Ask of each that is here and has one unanswered; the Ended of each whose end is not acknowledged.
+    /// The Ask of each that is here and has one unanswered; the Ended or the Give of each whose stay is over, until that is answered.
     pub kept: Pending,
     /// The Fetches whose contents are awaited.
     pub fetches: Lateral,

@@ -12,5 +12,5 @@ mod work;
 
 pub use coming::{come, complete, tag};
 pub use paths::count_named;
-pub use turns::{begin, go_on};
+pub use turns::{begin, go_on, is_to_read};
 pub use work::{Env, Work};

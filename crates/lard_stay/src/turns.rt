@@ -3,6 +3,7 @@
 ghost use Rattle.std.specs.Prelude.{◌≡◌, ◌+◌, ◌≤◌, ◌<◌, ◌^◌, [], false, true, None, length, drop, IfOk, OnOk, ◌≢◌};
 ghost use Rattle.lard_base.specs.declared.limits.TheConstants.{MAX_STREAM_BYTES};
 ghost use Rattle.lard_endpoint.specs.Control.{ControlBlock};
+ghost use Rattle.lard_rules.specs.Node.{is_to_read};
 ghost use Rattle.lard_rules.specs.Stay.{asking, enters, goes_on, next_by, next_of, reads_batch, stay_serves};
 ghost use Rattle.lard_rules.specs.Loop.{state_of, step_of};
 ghost use Rattle.lard_seq.specs.Seq.{one_if};
@@ -43,8 +44,9 @@ pub fn begin(
     go_on(alloc, env, endpoint, work)
 }
 
-/// Serves and reads, as long as the next request can be served or a batch is to be read (RFC 9112, 9.3.2). It adds no
-/// job, and no content to fetch. `NoMemory` where memory runs out; nothing is said of the endpoint and the work then.
+/// Serves and reads, as long as the next request can be served or a batch is to be read (RFC 9112, 9.3.2); a node that
+/// leaves reads none. It adds no job, and no content to fetch. `NoMemory` where memory runs out; nothing is said of the
+/// endpoint and the work then.
 pub fn go_on(
     alloc: Global,
     env: &Env<'_>,
@@ -65,12 +67,26 @@ pub fn go_on(
                 serve(alloc, env, endpoint, work)?;
             }
             Next::Read => {
+                if env.leaving {
+                    return Ok(());
+                }
                 if !read(alloc, env, false, endpoint, work)? {
                     return Ok(());
                 }
             }
             Next::Stop => return Ok(()),
         }
+    }
+}
+
+/// Whether a batch is to be read: all that was read is served, and it is read on.
+pub fn is_to_read(endpoint: &Endpoint, work: &Work) -> bool
+    ensures { result ≡ is_to_read (next_of (work_seen endpoint.now work.now)) }
+{
+    match next(endpoint, work) {
+        Next::Serve => false,
+        Next::Read => true,
+        Next::Stop => false,
     }
 }
 

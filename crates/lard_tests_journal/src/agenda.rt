@@ -115,4 +115,14 @@ fn kinds_are_set_and_counted(rt: HostRuntime) {
     let one = two.with(TimerKind::Fetch, false);
     same(&rt, &(none.is_none(), two.is_none()), &(true, false));
     same(&rt, &(two.how_many(), one.how_many()), &(2, 1));
+    let all = [
+        TimerKind::Tcp,
+        TimerKind::Offer,
+        TimerKind::Ask,
+        TimerKind::Fetch,
+        TimerKind::Ended,
+        TimerKind::Give,
+    ];
+    let six = all.iter().fold(none, |kinds, kind| kinds.with(*kind, true));
+    same(&rt, &six.how_many(), &6);
 }

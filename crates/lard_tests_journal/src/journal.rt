@@ -116,6 +116,7 @@ fn records_of_connections(rt: HostRuntime) {
         TimerKind::Ended,
         "n2 2 ended",
     );
+    timers_run(&rt, rt.alloc(), &second, two, TimerKind::Give, "n2 2 give");
     connections_are_reset(&rt, rt.alloc(), two, &second);
     packets_and_settles(&rt, rt.alloc());
 }

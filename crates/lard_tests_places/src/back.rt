@@ -1,5 +1,6 @@
 //! A node that no connection was offered to: what comes for one is dropped, and what another node asks for is read once. And a
-//! stay, step by step.
+//! stay, step by step, to its end, and to where a node that leaves gives it back.
+//! No event makes a node leave yet; its table does.
 
 ghost use Rattle.std.specs.Prelude.{◌≡◌, ◌≤◌, OnOk};
 ghost use Rattle.lard_back.specs.Sound.{IsNodeSound};
@@ -367,4 +368,136 @@ fn a_connection_stays_and_ends(rt: HostRuntime) {
     let here = [(2, 1, 1, 0), (0, 1, 0, 0), (2, 0, 1, 1), (0, 0, 1, 0)];
     let over = [(0, 1, 0, 2), (0, 1, 0, 0), (0, 0, 0, 1), (0, 0, 0, 0)];
     assert_eq!(rt; stayed_and_ended(rt.alloc(), n, c), Ok((here, over)));
+}
+
+// ---- a node that leaves
+
+/// It refuses a connection, each time that it is offered; nothing is awaited of the front end.
+fn refuses(
+    state: &mut NodeState,
+    alloc: Global,
+    setting: &Setting<'_>,
+    c: ConnId,
+) -> Result<[Told; 4], NoMemory>
+    requires sound { IsNodeSound state.old }
+    requires stream { setting.now.stream ≤ MAX_STREAM_BYTES }
+{
+    state.conns.leave();
+    let refused = offered(state, alloc, setting, c)?;
+    let again = offered(state, alloc, setting, c)?;
+    let given = hears(state, alloc, setting, Place::Front, c, Body::Given)?;
+    let quiet = does(state, alloc, setting, BackIn::Timer(c))?;
+    Ok([refused, again, given, quiet])
+}
+
+/// The client acknowledges the response, whose 43 bytes stand behind 5001.
+const TAKEN: Segment<'static> = Segment {
+    seq: Seq(1032),
+    ack: Seq(5044),
+    flags: Flags {
+        syn: false,
+        ack: true,
+        fin: false,
+        rst: false,
+        psh: false,
+    },
+    wnd: 65_535,
+    mss: None,
+    payload: b"",
+};
+
+/// It serves what it read, and gives the connection back once the client took that.
+fn gives_back(
+    state: &mut NodeState,
+    alloc: Global,
+    setting: &Setting<'_>,
+    c: ConnId,
+) -> Result<[Told; 4], NoMemory>
+    requires sound { IsNodeSound state.old }
+    requires stream { setting.now.stream ≤ MAX_STREAM_BYTES }
+    ensures sound { OnOk result (IsNodeSound state.new) }
+{
+    let new = offered(state, alloc, setting, c)?;
+    state.conns.leave();
+    let read = does(state, alloc, setting, BackIn::Disk(1))?;
+    let bytes = packet(alloc, &TAKEN, c, Dir::ToCluster)?;
+    let given = hears(state, alloc, setting, Place::Front, c, Body::Forward(bytes))?;
+    let again = does(state, alloc, setting, BackIn::Timer(c))?;
+    Ok([new, read, given, again])
+}
+
+/// The front end comes to know, by a Given alone.
+fn is_known(
+    state: &mut NodeState,
+    alloc: Global,
+    setting: &Setting<'_>,
+    c: ConnId,
+) -> Result<[Told; 4], NoMemory>
+    requires sound { IsNodeSound state.old }
+    requires stream { setting.now.stream ≤ MAX_STREAM_BYTES }
+{
+    let other = hears(state, alloc, setting, Place::Front, c, Body::EndedAck)?;
+    let known = hears(state, alloc, setting, Place::Front, c, Body::Given)?;
+    let quiet = does(state, alloc, setting, BackIn::Timer(c))?;
+    let taken = offered(state, alloc, setting, c)?;
+    Ok([other, known, quiet, taken])
+}
+
+/// Both, one after the other.
+fn gives_back_and_is_known(
+    state: &mut NodeState,
+    alloc: Global,
+    setting: &Setting<'_>,
+    c: ConnId,
+) -> Result<([Told; 4], [Told; 4]), NoMemory>
+    requires sound { IsNodeSound state.old }
+    requires stream { setting.now.stream ≤ MAX_STREAM_BYTES }
+{
+    let back = gives_back(state, alloc, setting, c)?;
+    let known = is_known(state, alloc, setting, c)?;
+    Ok((back, known))
+}
+
+/// What a node says that leaves, with ample memory: first of a connection that is new, then of one that it has.
+fn refused(alloc: Global, n: NodeId, c: ConnId) -> Result<[Told; 4], NoMemory> {
+    let files = files(alloc)?;
+    let setting = Setting {
+        n,
+        files: &files,
+        stream: 1000,
+    };
+    let mut state = begin(alloc, 100)?;
+    let told = refuses(&mut state, alloc, &setting, c);
+    finish(state);
+    told
+}
+
+fn given_back(alloc: Global, n: NodeId, c: ConnId) -> Result<([Told; 4], [Told; 4]), NoMemory> {
+    let files = files(alloc)?;
+    let setting = Setting {
+        n,
+        files: &files,
+        stream: 1000,
+    };
+    let mut state = begin(alloc, 100)?;
+    let told = gives_back_and_is_known(&mut state, alloc, &setting, c);
+    finish(state);
+    told
+}
+
+#[test]
+fn a_node_that_leaves_refuses(rt: HostRuntime) {
+    let n = NodeId::new(2).expect(&rt, "the number of a node");
+    let c = ConnId::new(1).expect(&rt, "the number of a connection");
+    let told = [(0, 1, 0, 0), (0, 1, 0, 0), (0, 0, 0, 0), (0, 0, 0, 0)];
+    assert_eq!(rt; refused(rt.alloc(), n, c), Ok(told));
+}
+
+#[test]
+fn a_node_that_leaves_gives_back(rt: HostRuntime) {
+    let n = NodeId::new(2).expect(&rt, "the number of a node");
+    let c = ConnId::new(1).expect(&rt, "the number of a connection");
+    let back = [(2, 1, 1, 0), (2, 0, 1, 1), (0, 1, 0, 2), (0, 1, 0, 0)];
+    let known = [(0, 0, 0, 0), (0, 0, 0, 1), (0, 0, 0, 0), (0, 1, 0, 0)];
+    assert_eq!(rt; given_back(rt.alloc(), n, c), Ok((back, known)));
 }

@@ -216,7 +216,26 @@ fn serve_by_disk(
     Ok(None)
 }
 
-/// Serves the requests by other nodes, where a file is cached, and else by the disk.
+/// A node that leaves reads none of the requests.
+fn read_none(
+    alloc: Global,
+    env: &Env<'_>,
+    endpoint: &mut Endpoint,
+    work: &mut Work,
+) -> Result<Wrong, NoMemory>
+    requires stream { env.now.serve.stream ≤ MAX_STREAM_BYTES }
+    requires queue { env.now.queue < 1000 }
+    requires whole { IsInHandSound endpoint.old work.old }
+    requires none { work.old.jobs ≡ [] }
+{
+    go_on(alloc, env, endpoint, work)?;
+    if endpoint.unread() != REQUESTS || !stands(work, &[]) || work.asked.is_some() {
+        return Ok(Some("requests that are not read"));
+    }
+    Ok(None)
+}
+
+/// Serves the requests by other nodes, where a file is cached, and else by the disk; a node that leaves does not.
 fn serve(
     alloc: Global,
     env: &Env<'_>,
@@ -229,6 +248,9 @@ fn serve(
     requires whole { length endpoint.old.recv.unread ≤ endpoint.old.recv.got }
 {
     let mut work = begun(alloc);
+    if env.leaving {
+        return read_none(alloc, env, endpoint, &mut work);
+    }
     if is_cached {
         serve_by_nodes(alloc, env, endpoint, &mut work, nodes)
     } else {
@@ -242,6 +264,7 @@ fn serve_at_node(
     cached: &[&[u8]],
     nodes: [NodeId; 3],
     c: ConnId,
+    leaving: bool,
 ) -> Result<Wrong, NoMemory> {
     let [node, _, _] = nodes;
     let files = files(alloc)?;
@@ -257,7 +280,7 @@ fn serve_at_node(
         epoch: Epoch(2),
         cache: &cache,
         queue: 5,
-        leaving: false,
+        leaving,
     };
     let mut endpoint = adopt(alloc)?;
     endpoint.law();
@@ -274,12 +297,25 @@ fn three_nodes() -> Option<[NodeId; 3]> {
 fn requests_are_served_in_their_order(rt: HostRuntime) {
     let nodes = three_nodes().expect(&rt, "the numbers of nodes");
     let c = ConnId::new(7).expect(&rt, "the number of a connection");
-    assert_eq!(rt; serve_at_node(rt.alloc(), &[b"/a"], nodes, c), Ok(None));
+    assert_eq!(rt;
+        serve_at_node(rt.alloc(), &[b"/a"], nodes, c, false),
+        Ok(None)
+    );
 }
 
 #[test]
 fn a_job_makes_its_request_ready(rt: HostRuntime) {
     let nodes = three_nodes().expect(&rt, "the numbers of nodes");
     let c = ConnId::new(7).expect(&rt, "the number of a connection");
-    assert_eq!(rt; serve_at_node(rt.alloc(), &[], nodes, c), Ok(None));
+    assert_eq!(rt; serve_at_node(rt.alloc(), &[], nodes, c, false), Ok(None));
+}
+
+#[test]
+fn a_node_that_leaves_reads_no_batch(rt: HostRuntime) {
+    let nodes = three_nodes().expect(&rt, "the numbers of nodes");
+    let c = ConnId::new(7).expect(&rt, "the number of a connection");
+    assert_eq!(rt;
+        serve_at_node(rt.alloc(), &[b"/a"], nodes, c, true),
+        Ok(None)
+    );
 }

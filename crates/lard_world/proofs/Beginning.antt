@@ -25,7 +25,6 @@ use Rattle.lard_settling.proofs.Written.{written}
 fresh : (limit : ℕ) → IsNodeSound (no_stays limit)
 fresh limit = record {
   stays = λ c. subst (λ row. IsAtRest row (table.get (no_stays limit).stays c)) (sym (get-empty nat_cmp c)) (subst (IsAtRest None) (sym (get-empty nat_cmp c)) tt);
-  remains = refl;
   kept = λ c h. let no : None ≡ Some [] = sym (get-empty nat_cmp c) ∙ h in absurd cc;
   fetches = λ c h. let no : None ≡ Some [] = sym (get-empty nat_cmp c) ∙ h in absurd cc;
 }

@@ -1,5 +1,5 @@
 -- By what each rule keeps.
-use Rattle.lard_laws.proofs.PastRuns.{each-end-is-of-its-stay, each-epoch-is-of-one-node}
+use Rattle.lard_law_connections.proofs.PastRuns.{each-end-is-of-its-stay, each-epoch-is-of-one-node}
 use Rattle.lard_laws.proofs.an_epoch_is_of_one_node.Goals as goal
 
 pub returns-clause-epochs : goal.returns-clause-epochs

@@ -1,6 +1,6 @@
 -- By the induction over the machine's steps.
-use Rattle.lard_laws.proofs.PastChoices.{firsts-are-open}
-use Rattle.lard_laws.proofs.PastClosed.{connections-go-to-new, past-is-closed}
+use Rattle.lard_law_connections.proofs.PastChoices.{firsts-are-open}
+use Rattle.lard_law_connections.proofs.PastClosed.{connections-go-to-new, past-is-closed}
 use Rattle.lard_laws.proofs.connections_go_to_new_nodes.Goals as goal
 
 pub returns-clause-firsts : goal.returns-clause-firsts

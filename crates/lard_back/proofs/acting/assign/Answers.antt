@@ -18,4 +18,4 @@ returns-in-Ok-clause-acted c =
     (goes_on env (work_seen c.in-Some.endpoint c.in-Ok.work)) c.go.new.state c.go.result c.in-Some.ensures.found c.in-Some.ensures.after
     (ap (goes_on env) (of_ok (λ (u : InHand). work_seen c.in-Some.endpoint u ≡ tagged env c.args.nodes.now (work_seen c.in-Some.endpoint c.new-work.result)) _ c.in-Ok.work c.in-Ok.is c.start.ensures.work
     ∙ ap (tagged env c.args.nodes.now) (c.new-work.ensures.seen c.in-Some.endpoint)))
-    c.requires.sound c.go.ensures.gone
+    c.requires.sound c.go.ensures.turned

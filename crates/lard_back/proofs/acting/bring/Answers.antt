@@ -21,4 +21,4 @@ returns-clause-acted c =
     acted-by k c.args.state.now t c.args.at.now c.args.was (λ env x. goes_on env (came_for (come_progress c.args.from) c.args.r (work_of x.0 x.1))) (c.in-Some.endpoint, c.in-Some.stay)
     (goes_on (node_env_of k t c.args.at.now) (work_seen c.in-Some.endpoint c.come.new.work)) c.go.new.state c.go.result c.in-Some.ensures.found c.in-Some.ensures.after
     (ap (goes_on (node_env_of k t c.args.at.now)) (c.come.ensures.came c.in-Some.endpoint ∙ ap (came_for (come_progress c.args.from) c.args.r) (c.new-work.ensures.seen c.in-Some.endpoint)))
-    c.requires.sound c.go.ensures.gone
+    c.requires.sound c.go.ensures.turned

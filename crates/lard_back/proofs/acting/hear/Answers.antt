@@ -23,4 +23,4 @@ returns-clause-acted c =
     acted-by k c.args.state.now t c.args.at.now c.args.was (λ env x. goes_on env (work_of (on_segment x.0 (said c.args.segment.now)).1 x.1)) (c.in-Some.endpoint, c.in-Some.stay)
     (goes_on (node_env_of k t c.args.at.now) (work_seen c.arrive-arrival.new.self c.new-work.result)) c.go.new.state c.go.result c.in-Some.ensures.found c.in-Some.ensures.after
     (ap (goes_on (node_env_of k t c.args.at.now)) (c.new-work.ensures.seen c.arrive-arrival.new.self ∙ ap (λ (x : Arrival × ControlBlock). work_of x.1 c.in-Some.stay) c.arrive-arrival.ensures))
-    c.requires.sound c.go.ensures.gone
+    c.requires.sound c.go.ensures.turned

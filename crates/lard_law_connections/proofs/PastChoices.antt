@@ -1,5 +1,5 @@
 -- A first assignment is to a node that was not closed: all that serve a path are open, and so is the least loaded node.
-use Rattle.std.proofs.Common.{◌≡◌, ℕ, ◌-◌, ◌≤◌, not, nat_eq, Bool, true, false, cond, List, [], ◌∷◌, ◌++◌, Option, Some, None, IfSome, Ok, refl, sym, ap, ◌∙◌, subst, arith, append_assoc}
+use Rattle.std.proofs.Common.{◌≡◌, ℕ, ◌≤◌, not, nat_eq, Bool, true, false, cond, List, [], ◌∷◌, ◌++◌, Option, Some, None, IfSome, Ok, refl, sym, ap, ◌∙◌, subst, arith, append_assoc}
 use Rattle.std.proofs.lemmas.Bool.Decides.{nat_tests}
 use Rattle.std.proofs.lemmas.List.Sums.{fold-append}
 use Rattle.std.specs.List.{list_any}
@@ -7,7 +7,7 @@ use Rattle.std.specs.Str.{bytes_eq}
 use Rattle.lard_law_view.specs.Prelude.{Config, EachMay, FirstChoice, IsNode, IsReached, LaterChoice, Machine, Rec, config_check, first_choice, has, home, is_node_closed, is_open, later_choice, node_closed_step, numbers}
 use Rattle.lard_counts.specs.Ledger.{Ledger, ledger, server_set}
 use Rattle.lard_dispatch.proofs.Soundness.{home-node}
-use Rattle.lard_laws.specs.PastLaws.{AssignsOpen, FirstsAreOpen}
+use Rattle.lard_law_connections.specs.PastLaws.{AssignsOpen, FirstsAreOpen}
 use Rattle.lard_law_connections.proofs.PolicyCounted.{assigns-as-stated, past-has, servers-are-told}
 use Rattle.lard_law_connections.proofs.PolicyStanding.{HasNodes, equal-turned, told-open}
 use Rattle.lard_law_connections.specs.PolicyLaws.{MayAssign}

@@ -1,9 +1,9 @@
 -- An epoch is of one node, and a node tells the end of a stay only where that is known: each rule keeps it, so it is in every run.
 use Rattle.std.proofs.Common.{◌≡◌, ◌⊎◌, ℕ, List, Option, Some, None, refl, sym, ap, ◌∙◌, subst, inl, inr, ⊎_elim, arith}
 use Rattle.lard_law_view.specs.Prelude.{BackConn, BackRow, Conn, Epoch, FrontConn, FrontRow, IsLaw, MayRestOn, Move, NodePart, Rec, Setting, gone, grown, node_put_back, setting, tale_at, with_leaving}
-use Rattle.lard_laws.specs.Past.{AtFront, AtNode, DecidedIn, EndsAreOfStays, EpochsAreOfOneNode, Over, RowTells, StageTells, Whereabouts, stage_whereabouts, whereabouts, whereabouts_of}
-use Rattle.lard_laws.specs.PastLaws.{EachEndIsOfItsStay, EachEpochIsOfOneNode}
-use Rattle.lard_laws.proofs.PastMoves.{Ends, Forgets, FromHere, FrontGoes, Goes, InFront, InNode, IsThere, NodeGoes, Returns, Stays, going}
+use Rattle.lard_law_connections.specs.Past.{AtFront, AtNode, DecidedIn, EndsAreOfStays, EpochsAreOfOneNode, Over, RowTells, StageTells, Whereabouts, stage_whereabouts, whereabouts, whereabouts_of}
+use Rattle.lard_law_connections.specs.PastLaws.{EachEndIsOfItsStay, EachEpochIsOfOneNode}
+use Rattle.lard_law_connections.proofs.PastMoves.{Ends, Forgets, FromHere, FrontGoes, Goes, InFront, InNode, IsThere, NodeGoes, Remains, Returns, Stays, going}
 use Rattle.lard_law_connections.proofs.PlacesRuns.{each-placed}
 use Rattle.lard_law_connections.proofs.PlacesTurns.{IsPlaced}
 use Rattle.lard_law_connections.specs.Places.{IsPast, OthersArePast, Owning, Sits, StageSits, owning}
@@ -64,6 +64,7 @@ module _ (x : Conn) (placed : IsPlaced x) (n : ℕ) (q : NodePart) (goes : NodeG
   mine : (e : ℕ) → NodeGoes n (whereabouts_of x) (nodes n).row q.row → DecidedIn e q.row → Was n e
   mine e (IsThere d at decided) h = inr (refl, subst (λ (i : ℕ). OthersArePast n i nodes) (decided-same d e q.row decided h) (others-past x placed n d at))
   mine e (Forgets is) h = inl (forgets-decided e (nodes n).row (subst (DecidedIn e) is h))
+  mine e (Remains is) h = inl (subst (DecidedIn e) is h)
 
   was : (m e : ℕ) → DecidedIn e (node_put_back nodes n q m).row → Was m e
   was m e = put-each nodes n q (λ k p. DecidedIn e p.row → Was k e) (mine e goes) (λ k other h. inl h) m
@@ -140,16 +141,17 @@ module _ (n : ℕ) where
   forgets-ends None at = tt
   forgets-ends (Some row) at = tt
 
-  node-ends : (at : Whereabouts) (o q : Option BackRow) → NodeGoes n at o q → RowTells n q at
-  node-ends at o q (IsThere e is decided) = subst (RowTells n q) (sym is) (there-ends q e decided)
-  node-ends at o q (Forgets is) = subst (λ (r : Option BackRow). RowTells n r at) (sym is) (forgets-ends o at)
+  node-ends : (at : Whereabouts) (o q : Option BackRow) → NodeGoes n at o q → RowTells n o at → RowTells n q at
+  node-ends at o q (IsThere e is decided) h = subst (RowTells n q) (sym is) (there-ends q e decided)
+  node-ends at o q (Forgets is) h = subst (λ (r : Option BackRow). RowTells n r at) (sym is) (forgets-ends o at)
+  node-ends at o q (Remains is) h = subst (λ (r : Option BackRow). RowTells n r at) (sym is) h
 
 move-ends : (x : Conn) (v : Move) → Goes x v → EndsAreOfStays x → EndsAreOfStays (grown x v)
 move-ends x v (InFront same goes) h n = subst (λ (nodes : ℕ → NodePart). RowTells n (nodes n).row (whereabouts_of (grown x v))) (sym same)
     (front-ends n x.c x.part.nodes (whereabouts_of x) (whereabouts_of (grown x v)) v.said.notes goes (h n))
 move-ends x v (InNode m q front same goes) h n = subst (λ (at : Whereabouts). RowTells n (v.part.nodes n).row at) (sym (ap (λ f. whereabouts f.row) front))
     (subst (λ (nodes : ℕ → NodePart). RowTells n (nodes n).row (whereabouts_of x)) (sym same)
-    (put-each x.part.nodes m q (λ k p. RowTells k p.row (whereabouts_of x)) (node-ends m (whereabouts_of x) (x.part.nodes m).row q.row goes) (λ k other. h k) n))
+    (put-each x.part.nodes m q (λ k p. RowTells k p.row (whereabouts_of x)) (node-ends m (whereabouts_of x) (x.part.nodes m).row q.row goes (h m)) (λ k other. h k) n))
 
 -- ---- every run
 
@@ -169,7 +171,7 @@ module _ (k : Setting) where
   }
 
 pub each-epoch-is-of-one-node : EachEpochIsOfOneNode
-each-epoch-is-of-one-node config files = carried config files IsPlaced EpochsAreOfOneNode (λ l. epochs-law (with_leaving (setting config files) l)) (each-placed config files)
+each-epoch-is-of-one-node config files checked = carried config files IsPlaced EpochsAreOfOneNode (λ l. epochs-law (with_leaving (setting config files) l)) (each-placed config files checked)
 
 pub each-end-is-of-its-stay : EachEndIsOfItsStay
-each-end-is-of-its-stay config files = carried config files IsPlaced EndsAreOfStays (λ l. ends-law (with_leaving (setting config files) l)) (each-placed config files)
+each-end-is-of-its-stay config files checked = carried config files IsPlaced EndsAreOfStays (λ l. ends-law (with_leaving (setting config files) l)) (each-placed config files checked)

@@ -4,11 +4,11 @@ use Rattle.std.proofs.lemmas.Bool.{cases_eq, cond_both}
 use Rattle.std.proofs.lemmas.List.Sums.{fold-append}
 use Rattle.std.specs.List.{filter, fold, list_any}
 use Rattle.lard_law_view.specs.Prelude.{BackRow, Came, Config, Conn, EachMay, Event, GoesBy, HasRule, IsConnNumber, IsReached, Machine, MayRestOn, Move, NodePart, Packet, Rec, Row, Seen, came_seen, config_check, conn, conn_of, gone, grown, is_node_closed, is_open, letter_of, machine_start, machine_step, net_of, net_step, node_closed_step, node_put_back, numbers, one_of, own, packet_at, plain, rows_of, seen_in, seen_of, seen_on, whose}
-use Rattle.lard_laws.specs.Past.{AtFront, AtNode, ClosesBehind, DecidedIn, GoesToNew, HasDecided, IsAtOrOver, IsNewTo, NewAt, Over, Whereabouts, whereabouts, whereabouts_of}
-use Rattle.lard_laws.specs.PastLaws.{AssignsOpen, ConnectionsGoToNew, PastIsClosed}
-use Rattle.lard_laws.proofs.PastChoices.{firsts-are-open}
-use Rattle.lard_laws.proofs.PastMoves.{Closes, Ends, Forgets, FromHere, FrontGoes, Goes, GoesOn, Hands, InFront, InNode, IsAssigned, IsThere, NodeGoes, Returns, Stays, StaysHere, going}
-use Rattle.lard_laws.proofs.WaysEarlier.{noted-row}
+use Rattle.lard_law_connections.specs.Past.{AtFront, AtNode, ClosesBehind, DecidedIn, GoesToNew, HasDecided, IsAtOrOver, IsNewTo, NewAt, Over, Whereabouts, whereabouts, whereabouts_of}
+use Rattle.lard_law_connections.specs.PastLaws.{AssignsOpen, ConnectionsGoToNew, PastIsClosed}
+use Rattle.lard_law_connections.proofs.PastChoices.{firsts-are-open}
+use Rattle.lard_law_connections.proofs.PastMoves.{Closes, Ends, Forgets, FromHere, FrontGoes, Goes, GoesOn, Hands, InFront, InNode, IsAssigned, IsThere, NodeGoes, Remains, Returns, Stays, StaysHere, going}
+use Rattle.lard_law_connections.proofs.NotedRows.{noted-row}
 use Rattle.lard_law_connections.specs.Places.{IsPast}
 use Rattle.lard_law_connections.proofs.LineBounds.{may-behind}
 use Rattle.lard_law_connections.proofs.PlacesRuns.{each-placed}
@@ -172,15 +172,18 @@ module _ (J K : List Rec) (more : (n : ℕ) → IsClosed J n → IsClosed K n) (
           mine : NodeGoes n (whereabouts_of x) (nodes n).row q.row → HasDecided q.row → IsAtOrOver n (whereabouts_of x) ⊎ IsClosed K n
           mine (IsThere e at is) decided = inl (subst (IsAtOrOver n) (sym at) refl)
           mine (Forgets is) decided = stays-so.closes n (forgets-has (nodes n).row (subst HasDecided is decided))
+          mine (Remains is) decided = stays-so.closes n (subst HasDecided is decided)
+
+    -- where this node is new to it still
+    still-new : ((e : ℕ) → IsNewTo e (nodes n).row → IsNewTo e q.row) → (at : Whereabouts) → NewAt nodes at → NewAt after at
+    still-new mine AtFront new = tt
+    still-new mine (Over by) new = tt
+    still-new mine (AtNode m e) new = put-each nodes n q (λ k p. IsNewTo e (nodes k).row → IsNewTo e p.row) (mine e) (λ k other old. old) m new
 
     node-new : NodeGoes n (whereabouts_of x) (nodes n).row q.row → NewAt after (whereabouts_of x)
     node-new (IsThere e at is) = subst (NewAt after) (sym at) (subst (λ (p : NodePart). IsNewTo e p.row) (sym (put-same nodes n q)) (decided-new e q.row is))
-    node-new (Forgets is) = go (whereabouts_of x) h.new where
-      go : (at : Whereabouts) → NewAt nodes at → NewAt after at
-      go AtFront new = tt
-      go (Over by) new = tt
-      go (AtNode m e) new = put-each nodes n q (λ k p. IsNewTo e (nodes k).row → IsNewTo e p.row)
-          (λ old. subst (IsNewTo e) (sym is) (forgets-new e (nodes n).row old)) (λ k other old. old) m new
+    node-new (Forgets is) = still-new (λ e old. subst (IsNewTo e) (sym is) (forgets-new e (nodes n).row old)) (whereabouts_of x) h.new
+    node-new (Remains is) = still-new (λ e old. subst (IsNewTo e) (sym is) old) (whereabouts_of x) h.new
 
   move-so : (v : Move) → Each (OpenSeen J) (seen_in x v) → Goes x v → IsPastSo K (grown x v)
   move-so v opens (InFront same goes) = record {
@@ -222,7 +225,7 @@ module _ (config : Config) (files : List (List ℕ × List ℕ)) (checked : conf
       ⊎_elim
       (λ (same : conn n q ≡ conn m q). subst (IsPastSo n.journal) (sym same) (stays-so m.journal n.journal more (conn m q) (h q)))
       (λ (k : (v : Move) × (IsConnNumber (conn m q).c × P (conn m q) v) × (conn n q ≡ grown (conn m q) v)).
-      let may_rest : MayRestOn IsPlaced (conn m q) = may-move IsPlaced (conn m q) k.1.0 (on.view.sound q) (each-placed config files m on.reached q) in
+      let may_rest : MayRestOn IsPlaced (conn m q) = may-move IsPlaced (conn m q) k.1.0 (on.view.sound q) (each-placed config files checked m on.reached q) in
       subst (IsPastSo n.journal) (sym k.2)
       (move-so m.journal n.journal more (conn m q) (h q) k.0 (subst (Each (OpenSeen m.journal)) (seen-is m n after.step q k.0 after.is k.2) opens) (k.1.1 may_rest)))
       goes

@@ -1,5 +1,5 @@
--- Within a settle the same nodes leave: no step of its rounds makes one leave.
-use Rattle.std.proofs.Common.{◌≡◌, ℕ, ◌-◌, ◌==◌, List, [], ◌∷◌, Option, Some, None, Result, Ok, Err, refl, sym, ap, ◌∙◌, subst, inl, inr}
+-- The nodes that leave stay the same in a step: no step of a round, and no event yet, makes one leave.
+use Rattle.std.proofs.Common.{◌≡◌, ℕ, ◌-◌, ◌==◌, List, [], ◌∷◌, Bool, true, Option, Some, None, Result, Ok, Err, refl, sym, ap, ◌∙◌, subst, inl, inr}
 use Rattle.std.specs.Prelude.{◌⊎◌, slice_set}
 use Rattle.std.specs.List.{list_any}
 use Rattle.std.proofs.lemmas.Bool.{cond_both}
@@ -33,6 +33,7 @@ module _ (k : NodeSetting) where
   hears-same s Front c epoch (body.Forward bytes) = deed-same s c _
   hears-same s Front c epoch (body.Tag number nodes) = deed-same s c _
   hears-same s Front c epoch body.EndedAck = deed-same s c _
+  hears-same s Front c epoch body.Given = deed-same s c _
   hears-same s (Node from) c epoch (body.Fetch r path) = fetched-same s from c epoch r path (k.files path)
   hears-same s (Node from) c epoch (body.Content r bytes) = deed-same s c _
   hears-same s _ c epoch _ = refl
@@ -70,3 +71,7 @@ leaving-stays m n e is = go (node-form m n e is) where
       (ap leaves_at (node-set m.nodes step.i step.s t step.there) ∙ step-same (node_setting m step.i) step.s step.comes ∙ ap leaves_at (sym step.there)))
       (λ other. ap leaves_at (node-others m.nodes step.i q step.s t step.there other)) in
       ap (λ (k : Machine). which_leave k) step.is ∙ (λ i q. one q i)
+
+-- so what leaves, leaves for ever
+pub still-leaves : (m n : Machine) (e : Event) → machine_step m e ≡ Ok n → (i : ℕ) → which_leave m i ≡ true → which_leave n i ≡ true
+still-leaves m n e is i leaves = ap (λ (l : ℕ → Bool). l i) (leaving-stays m n e is) ∙ leaves

@@ -2,15 +2,14 @@
 use Rattle.std.proofs.Common.{◌≡◌, ◌⊎◌, ℕ, ◌+◌, true, false, List, [], ◌∷◌, ◌++◌, Option, Some, None, refl, sym, ap, ◌∙◌, subst, inl, inr, ⊎_elim, eqb-true}
 use Rattle.lard_law_view.specs.Prelude.{BackRow, ClientRules, Conn, ControlBlock, Ending, EndpointParts, Epoch, FirstChoice, Front, FrontConn, FrontDeed, FrontEnv, FrontGets, FrontPart, FrontRest, FrontRow, FrontRules, Has, MayRestOn, Move, NodeDeed, NodeEnv, NodeGets, NodePart, NodeRules, Place, Rec, ReturnedBy, Rules, Said, Seen, Setting, Stay, Turn, Work, after_timer, back_part, back_rest, came_for, come_progress, front_does, front_fired, front_rest, front_rests, front_rule, given_sent, goes_on, gone, is_away, kept_after, next_epoch, node_begins, node_does, node_put_back, node_rule, offer_answer, on_segment, read_progress, reads_batch, returned_row, serving, serving_ready_of, serving_settled, spoken, state_of, tagged, taken_sent, timed, with_work, without, work_of}
 use Rattle.lard_base.specs.declared.place.TimerKind.TheVariants as kind
-use Rattle.lard_laws.specs.Past.{AtFront, AtNode, DecidedIn, Over, Whereabouts, stage_whereabouts, whereabouts, whereabouts_of}
-use Rattle.lard_laws.proofs.FrontReturning.{refuses}
-use Rattle.lard_law_connections.proofs.PlacesFrontMessages.{offer-says}
+use Rattle.lard_law_connections.specs.Past.{AtFront, AtNode, DecidedIn, Over, Whereabouts, stage_whereabouts, whereabouts, whereabouts_of}
+use Rattle.lard_law_connections.proofs.PlacesFrontMessages.{IsRefusedThere, no-give, offer-says, refused-there}
 use Rattle.lard_law_connections.proofs.PlacesNodeRules.{not-decided}
 use Rattle.lard_law_connections.proofs.PlacesTurns.{IsPlaced}
 use Rattle.lard_law_connections.proofs.PlacesWithNode.{IsWithNode, with-node}
 use Rattle.lard_law_connections.specs.Places.{IsDecided, IsOffered, IsPast, Offers}
 use Rattle.lard_law_view.proofs.EachClient.{each-client}
-use Rattle.lard_law_view.proofs.EachFront.{FrontComes, admission, each-front}
+use Rattle.lard_law_view.proofs.EachFront.{FrontComes, HasBack, admission, each-front}
 use Rattle.lard_law_view.proofs.EachNode.{HasCome, NodeComes, each-node, node_goes}
 use Rattle.lard_handoff_back.specs.declared.table.Adopt.TheVariants.{New}
 use Rattle.lard_handoff_front.specs.declared.row.FrontConn.TheVariants as stage
@@ -18,10 +17,18 @@ use Rattle.lard_history.proofs.Seeing.{has-behind}
 use Rattle.lard_journal.specs.declared.rec.Rec.TheVariants as rec
 use Rattle.lard_message.specs.declared.message.Body.TheVariants as body
 use Rattle.lard_rules.proofs.FrontCases.{IsAsGiven, IsAwayWith, IsBack, IsInStage, KeptByFront, KeptByReturn, KeptBySegment, begun_row, begun_service, front-keeps, heard_service, waiting_service}
-use Rattle.lard_rules.proofs.NodeCases.{IsHereWith, IsInItsEpoch, KeptByNode, node-keeps}
+use Rattle.lard_rules.proofs.NodeCases.{IsHereWith, IsOfItsEpoch, KeptByNode, Turned, node-keeps}
 use Rattle.lard_rules.specs.Front.{Drops, Says, Does}
 use Rattle.lard_rules.specs.Node as node
 use Rattle.lard_rules.specs.declared.places.Ending.TheVariants as ending
+
+-- ---- from where it comes back
+
+-- its node refused it, and gave it not back: so it did not take it
+refuses : (x : Conn) → IsPlaced x → (n epoch : ℕ) (given : Option EndpointParts) (heads : List Seen) → HasBack x n epoch given heads
+    → (row : FrontRow) (parts : EndpointParts) → IsBack x.part.front n epoch given row parts → IsRefusedThere x n epoch row
+refuses x placed n epoch None heads comes row parts at = refused-there x placed n epoch heads comes row parts at
+refuses x placed n epoch (Some given) heads comes row parts at = absurd (no-give x placed n epoch given comes.bytes comes.was comes.spells)
 
 -- ---- the front end
 
@@ -172,10 +179,11 @@ at-node x n e h = ap whereabouts h.found ∙ ⊎_elim
     (λ (s : h.row.stage ≡ stage.Moved n (record { 0 = e })). ap (stage_whereabouts h.row.ended_by) s)
     h.stage
 
--- It decided the epoch in which the connection is there, or an end that it told is acknowledged.
+-- It decided the epoch in which the connection is there, or it is acknowledged that a stay is over, or what it decided is as before.
 pub data NodeGoes (n : ℕ) (at : Whereabouts) (o q : Option BackRow) : Type 0 where
   IsThere : (e : ℕ) → at ≡ AtNode n e → DecidedIn e q → NodeGoes n at o q
   Forgets : q ≡ gone o → NodeGoes n at o q
+  Remains : q ≡ o → NodeGoes n at o q
 
 module _ (x : Conn) (n epoch : ℕ) (env : NodeEnv) (heads : List Seen) (placed : IsPlaced x) (now : env.epoch ≡ epoch) where
   abbrev p : NodePart
@@ -198,6 +206,10 @@ module _ (x : Conn) (n epoch : ℕ) (env : NodeEnv) (heads : List Seen) (placed 
   works-go : whereabouts_of x ≡ AtNode n env.epoch → (q : NodePart) (before : List _) (w : Work) → NodeDeedGoes (with_work env q before w)
   works-go at q before w = IsThere env.epoch at (kept-in q w (serving_settled env.serve w.service).0)
 
+  -- and what goes back
+  turns-go : whereabouts_of x ≡ AtNode n env.epoch → (q : NodePart) (before : List _) (w : Work) → Turned NodeDeedGoes env q before w
+  turns-go at q before w = (λ rests. works-go at q before w, λ back. IsThere env.epoch at refl)
+
   -- it is offered there
   offered-there : (o : Option FrontRow) → IsOffered n epoch o → whereabouts o ≡ AtNode n epoch
   offered-there None offered = absurd offered
@@ -219,21 +231,23 @@ module _ (x : Conn) (n epoch : ℕ) (env : NodeEnv) (heads : List Seen) (placed 
   rules_go : KeptByNode env p (NodeComes x n epoch heads) NodeDeedGoes
   rules_go = record {
     drops = tt;
-    hears = λ said b s m at. works-go (here-there b s at) p [] (goes_on env (work_of (on_segment b said).1 s));
+    hears = λ said b s m at. turns-go (here-there b s at) p [] (goes_on env (work_of (on_segment b said).1 s));
     tags = λ number nodes b s m at asked same count.
-        works-go (here-there b s at) (record p { kept = without kind.Ask 0 p.kept }) [] (goes_on env (tagged env nodes (work_of b s)));
+        turns-go (here-there b s at) (record p { kept = without kind.Ask 0 p.kept }) [] (goes_on env (tagged env nodes (work_of b s)));
     comes = λ from r b s m at wanted.
-        works-go (here-there b s at) (record p { fetches = without kind.Fetch r p.fetches }) [] (goes_on env (came_for (come_progress from) r (work_of b s)));
-    reads = λ r path b s m at. works-go (here-there b s at) p [] (goes_on env (came_for read_progress r (work_of b s)));
-    begins = λ parts m new. works-go (begins-there parts m new) p (taken_sent env) (goes_on env (state_of (reads_batch env true (node_begins env parts))));
+        turns-go (here-there b s at) (record p { fetches = without kind.Fetch r p.fetches }) [] (goes_on env (came_for (come_progress from) r (work_of b s)));
+    reads = λ r path b s m at. turns-go (here-there b s at) p [] (goes_on env (came_for read_progress r (work_of b s)));
+    begins = λ parts m new may. works-go (begins-there parts m new) p (taken_sent env) (goes_on env (state_of (reads_batch env true (node_begins env parts))));
     takes_again = λ parts m again. tt;
+    refuses = λ parts m is. Remains refl;
     fires = λ b s m at. IsThere env.epoch (here-there b s at)
         (kept-in p (work_of (after_timer b) s) (spoken env.serve (serving (after_timer b) s.served []) (serving_ready_of env.serve (after_timer b) (timed b))).0);
     resends = λ m none. tt;
-    ends = λ m told. Forgets refl;
+    ends = λ back m told was. Forgets refl;
+    leaves = λ b s m at back. IsThere env.epoch (here-there b s at) refl;
   }
 
-  node-rule-goes : (g : NodeGets) → IsInItsEpoch env p g → NodeComes x n epoch heads g → NodeDeedGoes (node_rule env p g)
+  node-rule-goes : (g : NodeGets) → IsOfItsEpoch env p g → NodeComes x n epoch heads g → NodeDeedGoes (node_rule env p g)
   node-rule-goes g at comes = node-keeps env p (NodeComes x n epoch heads) NodeDeedGoes rules_go g at comes
 
 -- ---- a move
@@ -283,7 +297,7 @@ module _ (k : Setting) where
   nodes : NodeRules k Going
   nodes = each-node k Going (record {
     does = λ x n epoch env heads g is at comes may. node-moves x n epoch env heads g may.given is.epoch_is (node_rule env (x.part.nodes n) g) refl
-        (node-rule-goes x n epoch env heads may.given is.epoch_is g at comes);
+        (node-rule-goes x n epoch env heads may.given is.epoch_is g at.0 comes);
     aside = λ x n a seen may. InFront refl (Stays refl);
   })
 

@@ -1,9 +1,9 @@
 -- Which nodes a connection goes to, and which it left, over every run of the cluster.
-use Rattle.std.specs.Prelude.{◌≡◌, ℕ, false, List, []}
-use Rattle.lard_law_view.specs.Prelude.{Config, EachMay, OfEach, Rec, conn, is_node_closed, is_open}
+use Rattle.std.specs.Prelude.{◌≡◌, ℕ, false, List, [], Ok}
+use Rattle.lard_law_view.specs.Prelude.{Config, EachMay, OfEach, Rec, config_check, conn, is_node_closed, is_open}
 use Rattle.lard_journal.specs.declared.rec.Rec.TheVariants as rec
 use Rattle.lard_law_connections.specs.LineLaws.{AlwaysConfigured}
-use Rattle.lard_laws.specs.Past.{ClosesBehind, EndsAreOfStays, EpochsAreOfOneNode, GoesToNew}
+use Rattle.lard_law_connections.specs.Past.{ClosesBehind, EndsAreOfStays, EpochsAreOfOneNode, GoesToNew}
 
 -- A first assignment is to a node that was not closed.
 abbrev pub AssignsOpen : List Rec → Rec → Type 0
@@ -21,7 +21,7 @@ abbrev pub ConnectionsGoToNew : Type 0
 ConnectionsGoToNew = AlwaysConfigured (λ config m. (q : ℕ) → GoesToNew (conn m q))
 
 abbrev pub EachEpochIsOfOneNode : Type 0
-EachEpochIsOfOneNode = (config : Config) (files : List (List ℕ × List ℕ)) → OfEach config files EpochsAreOfOneNode
+EachEpochIsOfOneNode = (config : Config) (files : List (List ℕ × List ℕ)) → config_check config ≡ Ok tt → OfEach config files EpochsAreOfOneNode
 
 abbrev pub EachEndIsOfItsStay : Type 0
-EachEndIsOfItsStay = (config : Config) (files : List (List ℕ × List ℕ)) → OfEach config files EndsAreOfStays
+EachEndIsOfItsStay = (config : Config) (files : List (List ℕ × List ℕ)) → config_check config ≡ Ok tt → OfEach config files EndsAreOfStays
